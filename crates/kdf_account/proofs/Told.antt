@@ -8,7 +8,8 @@ use Rattle.kdf_journal.specs.declared.entry.Entry.TheVariants.{Ran}
 use Rattle.kdf_account.specs.declared.moment.Moment.{Moment}
 use Rattle.kdf_account.specs.Moments.{entries_of}
 
-pub calls_more : (ms : List Moment) (i : ℕ) (d : Moment) → i < length ms → calls (entries_of (take i ms)) + calls_in (get_or ms i d).entry ≤ calls (entries_of ms)
+pub calls_more : (ms : List Moment) (i : ℕ) (d : Moment) → i < length ms → calls (entries_of (take i ms)) + calls_in (get_or ms i d).entry
+    ≤ calls (entries_of ms)
 calls_more ms i d lt =
     let e : Moment → Entry = λ (m : Moment). m.entry in
     let more = sum_by_more_le calls_in (entries_of ms) i d.entry (rw (length-map ms e) lt) in

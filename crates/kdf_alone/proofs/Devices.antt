@@ -39,13 +39,15 @@ own_is ps d = get_or-map own_fixture_in ps d Absent
 pub pool_is : (ps : List Place) (d : ℕ) → get_or (map pool_kind_in ps) d None ≡ pool_kind_in (get_or ps d Absent)
 pool_is ps d = get_or-map pool_kind_in ps d Absent
 
-pub fixture_is : (size : ℕ) (served : Bool) (claimed : List Bool) (ps : List Place) (d : ℕ) → fixture_at (claims size served claimed ps) d ≡ fixture_in (get_or ps d Absent)
+pub fixture_is : (size : ℕ) (served : Bool) (claimed : List Bool) (ps : List Place) (d : ℕ)
+    → fixture_at (claims size served claimed ps) d ≡ fixture_in (get_or ps d Absent)
 fixture_is size served claimed ps d = λ i. pooled_or (pool_is ps d i) (own_is ps d i)
 
 pub progress_is : (ps : List Place) (d : ℕ) → get_or (map progress_in ps) d new_progress ≡ progress_in (get_or ps d Absent)
 progress_is ps d = get_or-map progress_in ps d Absent
 
-pub kind_is : (size : ℕ) (served : Bool) (claimed : List Bool) (ps : List Place) (d : ℕ) → kind_at (claims size served claimed ps) d ≡ kind_in (fixture_in (get_or ps d Absent))
+pub kind_is : (size : ℕ) (served : Bool) (claimed : List Bool) (ps : List Place) (d : ℕ)
+    → kind_at (claims size served claimed ps) d ≡ kind_in (fixture_in (get_or ps d Absent))
 kind_is size served claimed ps d = ap kind_in (fixture_is size served claimed ps d)
 
 -- what the device of a place is
@@ -58,7 +60,8 @@ came (Own x) device e = ap (λ o. unwrap_or (option_map progress_of o) new_progr
 came (Pooled x) device e = ap (λ o. unwrap_or (option_map progress_of o) new_progress) e
 
 -- places that are changed and stay the same for what is seen of them
-pub seen_stays : {X : Type 0} (see : Place → X) (ps : List Place) (d : ℕ) (place : Place) → see place ≡ see (get_or ps d Absent) → map see (set ps d place) ≡ map see ps
+pub seen_stays : {X : Type 0} (see : Place → X) (ps : List Place) (d : ℕ) (place : Place) → see place ≡ see (get_or ps d Absent)
+    → map see (set ps d place) ≡ map see ps
 seen_stays see ps d place e = map-set_same see ps d place Absent e
 
 -- places in which the same is seen leave what the program has
@@ -76,21 +79,34 @@ seen_stock size served claimed ps new xs texts asked words own pool progress =
     }
 
 -- a transfer is done at once
-pub stock_moved : (size : ℕ) (served : Bool) (claimed : List Bool) (ps : List Place) (xs : List Stint) (texts : List Spooled) (asked : ℕ) (words : List ℕ) (d : ℕ) (order : TransferOrder) (first last : ℕ) (device : Device) (place : Place) (after : List ℕ)
+pub stock_moved : (size : ℕ) (served : Bool) (claimed : List Bool) (ps : List Place) (xs : List Stint) (texts : List Spooled) (asked : ℕ) (words : List ℕ)
+    (d : ℕ) (order : TransferOrder) (first last : ℕ) (device : Device) (place : Place) (after : List ℕ)
     → IsWhole (get_or ps d Absent) → device_of (get_or ps d Absent) ≡ Some device
-    → own_fixture_in place ≡ own_fixture_in (get_or ps d Absent) → pool_kind_in place ≡ pool_kind_in (get_or ps d Absent) → IsMoved order first last device words place after
+    → own_fixture_in place ≡ own_fixture_in (get_or ps d Absent) → pool_kind_in place ≡ pool_kind_in (get_or ps d Absent)
+    → IsMoved order first last device words place after
     → stock size served claimed (set ps d place) xs texts asked after ≡ at_once (Starts d order first last) (stock size served claimed ps xs texts asked words)
 stock_moved size served claimed ps xs texts asked words d order first last device place after whole here own pool moved =
     let k = stock size served claimed ps xs texts asked words in
-    let fixture : fixture_at k.claims d ≡ Some (fixture_of device) = fixture_is size served claimed ps d ∙ whole_fixture (get_or ps d Absent) device whole here in
+    let fixture : fixture_at k.claims d ≡ Some (fixture_of device) = fixture_is size served claimed ps d
+    ∙ whole_fixture (get_or ps d Absent) device whole here in
     let progress : device_in k d ≡ progress_of device = progress_is ps d ∙ came (get_or ps d Absent) device here in
-    let gone : map progress_in (set ps d place) ≡ set (map progress_in ps) d (device_after order first last (order_words order first last words) (fixture_of device) (device_in k d)) =
+    let gone : map progress_in (set ps d place) ≡ set (map progress_in ps) d
+    (device_after order first last (order_words order first last words) (fixture_of device) (device_in k d)) =
     map-set progress_in ps d place
-    ∙ ap (set (map progress_in ps) d) (moved.progress ∙ ap (device_after order first last (order_words order first last words) (fixture_of device)) (sym progress)) in
-    let wrote : after ≡ stored order first last words (fixture_of device) (device_in k d) = moved.words_are ∙ ap (stored order first last words (fixture_of device)) (sym progress) in
+    ∙ ap (set (map progress_in ps) d) (moved.progress ∙ ap (device_after order first last (order_words order first last words) (fixture_of device))
+    (sym progress)) in
+    let wrote : after ≡ stored order first last words (fixture_of device) (device_in k d) = moved.words_are
+    ∙ ap (stored order first last words (fixture_of device)) (sym progress) in
     let done : stock size served claimed (set ps d place) xs texts asked after ≡ moved_by d order first last (fixture_of device) k =
     λ i. record {
-      claims = record { size = size; claimed = claimed; fixtures = seen_stays own_fixture_in ps d place own i; pool = seen_stays pool_kind_in ps d place pool i; served = served };
+      claims = record {
+        size = size;
+        claimed = claimed;
+        fixtures = seen_stays own_fixture_in ps d place own i;
+        pool =
+            seen_stays pool_kind_in ps d place pool i;
+        served = served;
+      };
       spooled = texts;
       asked = asked;
       stints = map stint_in xs;
@@ -104,20 +120,26 @@ present Absent kind e = absurd cc
 present (Own device) kind e = (device, refl)
 present (Pooled device) kind e = (device, refl)
 
-claim_kind : (size : ℕ) (served : Bool) (claimed : List Bool) (ps : List Place) (d : ℕ) (b : Bool) (kind : Kind) → is_kind kind (cond b (kind_at (claims size served claimed ps) d) None) ≡ true → kind_at (claims size served claimed ps) d ≡ Some kind
+claim_kind : (size : ℕ) (served : Bool) (claimed : List Bool) (ps : List Place) (d : ℕ) (b : Bool) (kind : Kind)
+    → is_kind kind (cond b (kind_at (claims size served claimed ps) d) None) ≡ true → kind_at (claims size served claimed ps) d ≡ Some kind
 claim_kind size served claimed ps d true kind e = exact kind (kind_at (claims size served claimed ps) d) e
 claim_kind size served claimed ps d false kind e = let h : None ≡ Some kind = exact kind None e in absurd cc
 
 -- the kind of a device that is claimed is that of its place
-pub claimed_kind : (size : ℕ) (served : Bool) (claimed : List Bool) (ps : List Place) (d : ℕ) (kind : Kind) → is_kind kind (claim (claims size served claimed ps) d) ≡ true → kind_in (fixture_in (get_or ps d Absent)) ≡ Some kind
-claimed_kind size served claimed ps d kind e = sym (kind_is size served claimed ps d) ∙ claim_kind size served claimed ps d (ltb d 16 && get_or claimed d false) kind e
+pub claimed_kind : (size : ℕ) (served : Bool) (claimed : List Bool) (ps : List Place) (d : ℕ) (kind : Kind)
+    → is_kind kind (claim (claims size served claimed ps) d) ≡ true → kind_in (fixture_in (get_or ps d Absent)) ≡ Some kind
+claimed_kind size served claimed ps d kind e = sym (kind_is size served claimed ps d)
+    ∙ claim_kind size served claimed ps d (ltb d 16 && get_or claimed d false) kind e
 
 -- where a device of a kind is claimed, there is one
-pub claimed_device : (size : ℕ) (served : Bool) (claimed : List Bool) (ps : List Place) (d : ℕ) (kind : Kind) → is_kind kind (claim (claims size served claimed ps) d) ≡ true → (device : Device) × (device_of (get_or ps d Absent) ≡ Some device)
+pub claimed_device : (size : ℕ) (served : Bool) (claimed : List Bool) (ps : List Place) (d : ℕ) (kind : Kind)
+    → is_kind kind (claim (claims size served claimed ps) d) ≡ true → (device : Device) × (device_of (get_or ps d Absent) ≡ Some device)
 claimed_device size served claimed ps d kind e = present (get_or ps d Absent) kind (claimed_kind size served claimed ps d kind e)
 
 -- a transfer, under other names
-pub moved_at : (order : TransferOrder) (first first' last last' : ℕ) (device : Device) (words words' : List ℕ) (place : Place) (after after' : List ℕ) → first ≡ first' → last ≡ last' → words ≡ words' → after' ≡ after → IsMoved order first last device words place after → IsMoved order first' last' device words' place after'
+pub moved_at : (order : TransferOrder) (first first' last last' : ℕ) (device : Device) (words words' : List ℕ) (place : Place) (after after' : List ℕ)
+    → first ≡ first' → last ≡ last' → words ≡ words' → after' ≡ after → IsMoved order first last device words place after
+    → IsMoved order first' last' device words' place after'
 moved_at order first first' last last' device words words' place after after' f l w a moved =
     subst (λ x. IsMoved order first' last' device words' place x) (sym a)
     (subst (λ x. IsMoved order first' last' device x place after) w

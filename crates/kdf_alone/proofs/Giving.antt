@@ -18,7 +18,8 @@ use Rattle.kdf_alone.proofs.Devices.{pool_is, progress_is, seen_stays, stock}
 use Rattle.kdf_alone.proofs.Stints.{all_ended, ended_kept, give_lent, kept_device}
 
 -- at its place, whose number is known by another name too, stands something of the same kind
-module _ (size : ℕ) (served : Bool) (claimed : List Bool) (ps : List Place) (xs : List Stint) (texts : List Spooled) (asked : ℕ) (words : List ℕ) (d n : ℕ) (same : n ≡ d) (low : n < length ps)
+module _ (size : ℕ) (served : Bool) (claimed : List Bool) (ps : List Place) (xs : List Stint) (texts : List Spooled) (asked : ℕ) (words : List ℕ) (d n : ℕ)
+    (same : n ≡ d) (low : n < length ps)
     (was place : Place) (at : was ≡ get_or ps n was) (own : own_fixture_in place ≡ own_fixture_in was) (kind : pool_kind_in place ≡ pool_kind_in was) where
   abbrev before : Stock
   before = stock size served claimed ps xs texts asked words
@@ -44,7 +45,8 @@ module _ (size : ℕ) (served : Bool) (claimed : List Bool) (ps : List Place) (x
   kept_given ys kept = let Q : List _ → Type 0 = λ pool. All (IsKept pool) ys in subst Q (sym kinds) kept
 
   -- one of the program's own
-  pub own_given : (pool_kind_in was ≡ None) × (place ≡ was) → stock size served (set claimed n false) (set ps n place) xs texts asked words ≡ at_once (Releases (is_pooled before.claims d) d) before
+  pub own_given : (pool_kind_in was ≡ None) × (place ≡ was) → stock size served (set claimed n false) (set ps n place) xs texts asked words
+      ≡ at_once (Releases (is_pooled before.claims d) d) before
   own_given is =
       let came : map progress_in (set ps n place) ≡ map progress_in ps = seen_stays progress_in ps n place (ap progress_in (is.1 ∙ there)) in
       let done : stock size served (set claimed n false) (set ps n place) xs texts asked words ≡ released false d before =
@@ -88,6 +90,7 @@ module _ (size : ℕ) (served : Bool) (claimed : List Bool) (ps : List Place) (x
 
     pub pooled_kept : All IsWhole ps → All (IsKept (map pool_kind_in ps)) xs → All (IsKept (map pool_kind_in (set ps n place))) ys
     pooled_kept whole kept =
-        let new = kept_device ps d device held (subst IsWhole (there ∙ ap (λ m. get_or ps m Absent) same) (subst IsWhole (sym there) (All-get_or IsWhole ps n Absent low whole))) in
+        let new = kept_device ps d device held (subst IsWhole (there ∙ ap (λ m. get_or ps m Absent) same)
+        (subst IsWhole (sym there) (All-get_or IsWhole ps n Absent low whole))) in
         let Q : List Stint → Type 0 = All (IsKept (map pool_kind_in ps)) in
         kept_given ys (subst Q (sym ends) (ended_kept (map pool_kind_in ps) d device xs new kept))

@@ -8,7 +8,8 @@ use Rattle.kdf_alone.specs.declared.place.Place.TheVariants.{Absent}
 use Rattle.kdf_alone.specs.Bench.{CanAsk, HasRoom}
 use Rattle.kdf_alone.specs.Places.{IsReady}
 
-module _ (b new : Bench) (places : new.places ≡ b.places) (block : new.block ≡ b.block) (spooled : new.spooled ≡ b.spooled) (stints : new.stints ≡ b.stints) (asked : new.asked ≡ b.asked) where
+module _ (b new : Bench) (places : new.places ≡ b.places) (block : new.block ≡ b.block) (spooled : new.spooled ≡ b.spooled) (stints : new.stints ≡ b.stints)
+    (asked : new.asked ≡ b.asked) where
   can_ask : CanAsk b → CanAsk new
   can_ask few = subst (λ n. n < 4294967295) (sym asked) few
 

@@ -9,7 +9,8 @@ use Rattle.kdf_alone.specs.Bench.{given, stock_of, state_with, shown, Acts}
 use Rattle.kdf_alone.proofs.Takings.{row_given, step_given}
 
 -- how the next order ends over a bench that shows this state, and is answered so
-pub step_over : (old b : Bench) (answer : ℕ) (r : Registers) → stock_of b ≡ stock_of old → b.answer ≡ answer → (outcome (shown b) r).step ≡ (next_of (state_with r old) (λ _. answer)).step
+pub step_over : (old b : Bench) (answer : ℕ) (r : Registers) → stock_of b ≡ stock_of old → b.answer ≡ answer
+    → (outcome (shown b) r).step ≡ (next_of (state_with r old) (λ _. answer)).step
 step_over old b answer r stock is =
     ap (λ (o : Outcome). o.step) (outcome_alone (stock_of b) (given (stock_of b).claims b.answer) r)
     ∙ step_given (state r (stock_of b)) b.answer
@@ -17,7 +18,8 @@ step_over old b answer r stock is =
     ∙ ap (λ a. (next_of (state_with r old) (λ _. a)).step) is
 
 -- and the state after it
-pub row_over : (old b new : Bench) (answer : ℕ) (r r' : Registers) → stock_of b ≡ stock_of old → b.answer ≡ answer → r' ≡ (outcome (shown b) r).registers → Acts b (outcome (shown b) r).act new → state_with r' new ≡ row (state_with r old) (λ _. answer)
+pub row_over : (old b new : Bench) (answer : ℕ) (r r' : Registers) → stock_of b ≡ stock_of old → b.answer ≡ answer → r' ≡ (outcome (shown b) r).registers
+    → Acts b (outcome (shown b) r).act new → state_with r' new ≡ row (state_with r old) (λ _. answer)
 row_over old b new answer r r' stock is registers acted =
     row_alone (stock_of b) (stock_of new) (given (stock_of b).claims b.answer) r r' registers acted
     ∙ row_given (state r (stock_of b)) b.answer

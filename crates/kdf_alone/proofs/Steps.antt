@@ -29,7 +29,8 @@ stopping step so life =
     so
 
 -- once an order has gone so that the program has stopped, it stays
-pub over_after : (xs : List ℕ) (s t u : State) (n m : ℕ) (step : Step) → t ≡ lone s xs n → is_live t.registers.state ≡ true → u ≡ row t (given_by xs t) → (next_of t (given_by xs t)).step ≡ step → ((life : Life) → is_live (life_after step life) ≡ false) → n < m → u ≡ lone s xs m
+pub over_after : (xs : List ℕ) (s t u : State) (n m : ℕ) (step : Step) → t ≡ lone s xs n → is_live t.registers.state ≡ true → u ≡ row t (given_by xs t)
+    → (next_of t (given_by xs t)).step ≡ step → ((life : Life) → is_live (life_after step life) ≡ false) → n < m → u ≡ lone s xs m
 over_after xs s t u n m step e live is so stops less =
     let one : u ≡ lone s xs (suc n) = is ∙ sym (live_step xs t live) ∙ ap (lone_step xs) e in
     let over : is_live u.registers.state ≡ false =

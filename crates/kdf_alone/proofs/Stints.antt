@@ -2,7 +2,8 @@
 use Rattle.std.specs.Prelude.{◌&&◌, HoldsAt, slice_get, unwrap_or}
 use Rattle.std.specs.List.{All}
 use Rattle.std.specs.Option.{option_map}
-use Rattle.std.proofs.Common.{◌≡◌, ◌≢◌, ℕ, zero, suc, ◌+◌, ◌<◌, ◌≤◌, Bool, true, false, cond, eqb, ltb, List, [], ◌∷◌, ◌++◌, length, get_or, map, set, Option, Some, None, is_some, refl, sym, ap, ap₂, ◌∙◌, subst, ⊎_elim, arith}
+use Rattle.std.proofs.Common.{◌≡◌, ◌≢◌, ℕ, zero, suc, ◌+◌, ◌<◌, ◌≤◌, Bool, true, false, cond, eqb, ltb, List, [], ◌∷◌, ◌++◌, length, get_or, map, set, Option}
+use Rattle.std.proofs.Common.{Some, None, is_some, refl, sym, ap, ap₂, ◌∙◌, subst, ⊎_elim, arith}
 use Rattle.std.proofs.Math.ListN.{get_or-map}
 use Rattle.std.proofs.lemmas.Bool.{and_parts, cases_Bool, cases_eq, cases_lt, eq-eqb, eqb-true, false≢true, ne_eqb}
 use Rattle.std.proofs.lemmas.Bool.Decides.{nat_tests}
@@ -35,24 +36,28 @@ use Rattle.kdf_alone.proofs.Takings.{taken_again}
 
 -- ---- what holds of the places, the marks and the stints holds of all that a program has, and the other way round
 
-pub whole_lent : (r : Registers) (size : ℕ) (served : Bool) (claimed : List Bool) (ps : List Place) (xs : List Stint) (texts : List Spooled) (asked : ℕ) (words : List ℕ)
+pub whole_lent : (r : Registers) (size : ℕ) (served : Bool) (claimed : List Bool) (ps : List Place) (xs : List Stint) (texts : List Spooled) (asked : ℕ)
+    (words : List ℕ)
     → AreLent ps claimed xs → IsLent (record { registers = r; stock = stock size served claimed ps xs texts asked words })
 whole_lent r size served claimed ps xs texts asked words lent =
     record { places = lent.places; marks = lent.marks; few = lent.few; fresh = lent.fresh; pooled = lent.pooled; held = lent.held; one = lent.one }
 
-pub part_lent : (r : Registers) (size : ℕ) (served : Bool) (claimed : List Bool) (ps : List Place) (xs : List Stint) (texts : List Spooled) (asked : ℕ) (words : List ℕ)
+pub part_lent : (r : Registers) (size : ℕ) (served : Bool) (claimed : List Bool) (ps : List Place) (xs : List Stint) (texts : List Spooled) (asked : ℕ)
+    (words : List ℕ)
     → IsLent (record { registers = r; stock = stock size served claimed ps xs texts asked words }) → AreLent ps claimed xs
 part_lent r size served claimed ps xs texts asked words lent =
     record { places = lent.places; marks = lent.marks; few = lent.few; fresh = lent.fresh; pooled = lent.pooled; held = lent.held; one = lent.one }
 
 -- so where that is what an act leaves
-pub left_lent : (size : ℕ) (served : Bool) (claimed : List Bool) (ps : List Place) (xs : List Stint) (texts : List Spooled) (asked : ℕ) (words : List ℕ) (k : Stock)
+pub left_lent : (size : ℕ) (served : Bool) (claimed : List Bool) (ps : List Place) (xs : List Stint) (texts : List Spooled) (asked : ℕ) (words : List ℕ)
+    (k : Stock)
     → stock size served claimed ps xs texts asked words ≡ k → IsLent (record { registers = new_registers; stock = k }) → AreLent ps claimed xs
 left_lent size served claimed ps xs texts asked words k is lent =
     let Q : Stock → Type 0 = λ k'. IsLent (record { registers = new_registers; stock = k' }) in
     part_lent new_registers size served claimed ps xs texts asked words (subst Q (sym is) lent)
 
-module _ (size : ℕ) (served : Bool) (claimed : List Bool) (ps : List Place) (xs : List Stint) (texts : List Spooled) (asked : ℕ) (words : List ℕ) (lent : AreLent ps claimed xs) where
+module _ (size : ℕ) (served : Bool) (claimed : List Bool) (ps : List Place) (xs : List Stint) (texts : List Spooled) (asked : ℕ) (words : List ℕ)
+    (lent : AreLent ps claimed xs) where
   abbrev k : Stock
   k = stock size served claimed ps xs texts asked words
 
@@ -87,12 +92,14 @@ module _ (size : ℕ) (served : Bool) (claimed : List Bool) (ps : List Place) (x
   pub give_lent : (claimed' : List Bool) (ps' : List Place) (xs' : List Stint) (d : ℕ)
       → stock size served claimed' ps' xs' texts asked words ≡ at_once (Releases (is_pooled k.claims d) d) k → AreLent ps' claimed' xs'
   give_lent claimed' ps' xs' d left =
-      left_lent size served claimed' ps' xs' texts asked words (at_once (Releases (is_pooled k.claims d) d) k) left (released_lent d (is_pooled k.claims d) refl)
+      left_lent size served claimed' ps' xs' texts asked words (at_once (Releases (is_pooled k.claims d) d) k) left
+      (released_lent d (is_pooled k.claims d) refl)
 
 -- ---- a device of the pool is given back
 
 -- a stint of another device, or one that is over, stays
-ended_shut : (d : ℕ) (device : Device) (e : ℕ) (left : Option Device) → ((e ≡ d) × (left ≡ None) → ⊥) → ended d device (record { d = e; left = left }) ≡ record { d = e; left = left }
+ended_shut : (d : ℕ) (device : Device) (e : ℕ) (left : Option Device) → ((e ≡ d) × (left ≡ None) → ⊥)
+    → ended d device (record { d = e; left = left }) ≡ record { d = e; left = left }
 ended_shut d device e (Some other) shut =
     ⊎_elim
     (λ (is : eqb e d ≡ true). rw is refl)
@@ -104,7 +111,8 @@ ended_shut d device e None shut =
     (λ (other : e ≢ d). rw (ne_eqb e d other) refl)
     (cases_eq e d)
 
-ended_open : (d : ℕ) (device : Device) (e : ℕ) (left : Option Device) → e ≡ d → left ≡ None → ended d device (record { d = e; left = left }) ≡ record { d = e; left = Some device }
+ended_open : (d : ℕ) (device : Device) (e : ℕ) (left : Option Device) → e ≡ d → left ≡ None
+    → ended d device (record { d = e; left = left }) ≡ record { d = e; left = Some device }
 ended_open d device e None same unfinished = rw (eq-eqb e d same) refl
 ended_open d device e (Some other) same unfinished = absurd cc
 
@@ -112,7 +120,8 @@ ended_open d device e (Some other) same unfinished = absurd cc
 pub ended_none : (d : ℕ) (device : Device) (xs : List Stint) → All (λ x. IsOpen d x → ⊥) xs → map (ended d device) xs ≡ xs
 ended_none d device [] none = refl
 ended_none d device (x ∷ xs) none =
-    ap₂ (λ y ys. y ∷ ys) (ended_shut d device x.d x.left (All-head (λ y. IsOpen d y → ⊥) x xs none)) (ended_none d device xs (All-tail (λ y. IsOpen d y → ⊥) x xs none))
+    ap₂ (λ y ys. y ∷ ys) (ended_shut d device x.d x.left (All-head (λ y. IsOpen d y → ⊥) x xs none))
+    (ended_none d device xs (All-tail (λ y. IsOpen d y → ⊥) x xs none))
 
 abbrev AreApart : state.Stint → state.Stint → Type 0
 AreApart x y = x.left ≡ None → y.left ≡ None → x.device ≢ y.device
@@ -124,10 +133,12 @@ one_tail : (x : Stint) (xs : List Stint) → HaveOneOpen (x ∷ xs) → HaveOneO
 one_tail x xs one = λ i j y less inside. one (suc i) (suc j) y (omega arith) (omega arith)
 
 one_head : (x : Stint) (xs : List Stint) → HaveOneOpen (x ∷ xs) → (j : ℕ) (y : Stint) → j < length xs → AreApart (stint_in x) (stint_in (get_or xs j y))
-one_head x xs one j y inside = subst (AreApart (stint_in x)) (get_or-map stint_in xs j y) (one zero (suc j) (stint_in y) (omega arith) (let n = length-map xs stint_in in omega arith))
+one_head x xs one j y inside = subst (AreApart (stint_in x)) (get_or-map stint_in xs j y)
+    (one zero (suc j) (stint_in y) (omega arith) (let n = length-map xs stint_in in omega arith))
 
 -- one that is open is the one that ends
-pub ended_at : (d : ℕ) (device : Device) (xs : List Stint) (i : ℕ) (y : Stint) → i < length xs → IsOpen d (get_or xs i y) → HaveOneOpen xs → map (ended d device) xs ≡ set xs i (record (get_or xs i y) { left = Some device })
+pub ended_at : (d : ℕ) (device : Device) (xs : List Stint) (i : ℕ) (y : Stint) → i < length xs → IsOpen d (get_or xs i y) → HaveOneOpen xs
+    → map (ended d device) xs ≡ set xs i (record (get_or xs i y) { left = Some device })
 ended_at d device [] i y inside open_ one = absurd (omega arith)
 ended_at d device (x ∷ xs) zero y inside open_ one =
     ap₂ (λ z zs. z ∷ zs)
@@ -135,7 +146,8 @@ ended_at d device (x ∷ xs) zero y inside open_ one =
     (ended_none d device xs (λ j z lt is. one_head x xs one j z lt (is_shut x.left open_.1) (is_shut (get_or xs j z).left is.1) (open_.0 ∙ sym is.0)))
 ended_at d device (x ∷ xs) (suc i) y inside open_ one =
     ap₂ (λ z zs. z ∷ zs)
-    (ended_shut d device x.d x.left (λ is. one_head x xs one i y (omega arith) (is_shut x.left is.1) (is_shut (get_or xs i y).left open_.1) (is.0 ∙ sym open_.0)))
+    (ended_shut d device x.d x.left (λ is. one_head x xs one i y (omega arith) (is_shut x.left is.1) (is_shut (get_or xs i y).left open_.1)
+    (is.0 ∙ sym open_.0)))
     (ended_at d device xs i y (omega arith) open_ (one_tail x xs one))
 
 -- so where it is known by another name
@@ -145,7 +157,8 @@ ends_at d device xs i x y one inside unfinished is =
     ap (λ z. set xs i (let w : Stint = record z { left = Some device } in w)) is ∙ sym (ended_at d device xs i y inside (unfinished y) one)
 
 -- so as a state has them
-ended_in : (d : ℕ) (device : Device) (p : Progress) (e : ℕ) (left : Option Device) → progress_of device ≡ p → stint_in (ended d device (record { d = e; left = left })) ≡ handed d p (stint_in (record { d = e; left = left }))
+ended_in : (d : ℕ) (device : Device) (p : Progress) (e : ℕ) (left : Option Device) → progress_of device ≡ p
+    → stint_in (ended d device (record { d = e; left = left })) ≡ handed d p (stint_in (record { d = e; left = left }))
 ended_in d device p e (Some other) came =
     ⊎_elim
     (λ (is : eqb e d ≡ true). rw is refl)
@@ -157,12 +170,14 @@ ended_in d device p e None came =
     (λ (no : eqb e d ≡ false). rw no refl)
     (cases_Bool (eqb e d))
 
-pub all_ended : (d : ℕ) (device : Device) (p : Progress) (xs : List Stint) → progress_of device ≡ p → map stint_in (map (ended d device) xs) ≡ map (handed d p) (map stint_in xs)
+pub all_ended : (d : ℕ) (device : Device) (p : Progress) (xs : List Stint) → progress_of device ≡ p
+    → map stint_in (map (ended d device) xs) ≡ map (handed d p) (map stint_in xs)
 all_ended d device p [] came = refl
 all_ended d device p (x ∷ xs) came = ap₂ (λ y ys. y ∷ ys) (ended_in d device p x.d x.left came) (all_ended d device p xs came)
 
 -- and each that is over has kept a device of the pool
-kept_one : (pool : List (Option Kind)) (d : ℕ) (device : Device) (e : ℕ) (left : Option Device) → IsKept pool (record { d = d; left = Some device }) → IsKept pool (record { d = e; left = left }) → IsKept pool (ended d device (record { d = e; left = left }))
+kept_one : (pool : List (Option Kind)) (d : ℕ) (device : Device) (e : ℕ) (left : Option Device) → IsKept pool (record { d = d; left = Some device })
+    → IsKept pool (record { d = e; left = left }) → IsKept pool (ended d device (record { d = e; left = left }))
 kept_one pool d device e (Some other) new old =
     ⊎_elim
     (λ (is : eqb e d ≡ true). rw is old)
@@ -176,11 +191,14 @@ kept_one pool d device e None new old =
     (λ (no : eqb e d ≡ false). rw no old)
     (cases_Bool (eqb e d))
 
-pub ended_kept : (pool : List (Option Kind)) (d : ℕ) (device : Device) (xs : List Stint) → IsKept pool (record { d = d; left = Some device }) → All (IsKept pool) xs → All (IsKept pool) (map (ended d device) xs)
-ended_kept pool d device xs new kept = All-map (IsKept pool) (ended d device) xs (λ i x lt. kept_one pool d device (get_or xs i x).d (get_or xs i x).left new (kept i x lt))
+pub ended_kept : (pool : List (Option Kind)) (d : ℕ) (device : Device) (xs : List Stint) → IsKept pool (record { d = d; left = Some device })
+    → All (IsKept pool) xs → All (IsKept pool) (map (ended d device) xs)
+ended_kept pool d device xs new kept = All-map (IsKept pool) (ended d device) xs
+    (λ i x lt. kept_one pool d device (get_or xs i x).d (get_or xs i x).left new (kept i x lt))
 
 -- what a stint keeps that is over is a device of the pool
-pub kept_device : (ps : List Place) (d : ℕ) (device : Device) → get_or ps d Absent ≡ Pooled device → IsWhole (get_or ps d Absent) → IsKept (map pool_kind_in ps) (record { d = d; left = Some device })
+pub kept_device : (ps : List Place) (d : ℕ) (device : Device) → get_or ps d Absent ≡ Pooled device → IsWhole (get_or ps d Absent)
+    → IsKept (map pool_kind_in ps) (record { d = d; left = Some device })
 kept_device ps d device is whole =
     let Q : Place → Type 0 = IsWhole in
     sym (subst Q is whole) ∙ ap (λ (o : Option Kind). Some (blank_fixture (unwrap_or o Tp))) (sym (pool_is ps d ∙ ap pool_kind_in is))
@@ -191,7 +209,8 @@ nothing : {X : Type 0} (P : X → Type 0) (xs : List X) → xs ≡ [] → All P 
 nothing P xs none i d inside = absurd (let n = ap length none in omega arith)
 
 -- no stint has begun, and no device of the pool has moved anything
-pub begun_lent : (ps : List Place) (claimed : List Bool) (xs : List Stint) → length ps ≡ 16 → length claimed ≡ 16 → All IsUnlent ps → xs ≡ [] → AreLent ps claimed xs
+pub begun_lent : (ps : List Place) (claimed : List Bool) (xs : List Stint) → length ps ≡ 16 → length claimed ≡ 16 → All IsUnlent ps → xs ≡ []
+    → AreLent ps claimed xs
 begun_lent ps claimed xs places marks unlent none =
     record {
       places = length-map ps progress_in ∙ places;
@@ -207,7 +226,8 @@ begun_lent ps claimed xs places marks unlent none =
     few d pooled =
         ⊎_elim
         (λ (low : d < 16). low)
-        (λ (high : 16 ≤ d). absurd (false≢true (sym (ap is_some (get_or_past (map pool_kind_in ps) d None (omega (arith, length-map ps pool_kind_in)))) ∙ pooled)))
+        (λ (high : 16 ≤ d). absurd (false≢true (sym (ap is_some (get_or_past (map pool_kind_in ps) d None (omega (arith, length-map ps pool_kind_in))))
+        ∙ pooled)))
         (cases_lt d 16)
 
 -- ---- a stint as it is told
@@ -218,7 +238,8 @@ unfolding lendings
 count_lent k xs is = length-map k.stints (lending_of k) ∙ ap length is ∙ length-map xs stint_in
 
 -- the stint at a place
-pub stint_lent : (see : state.Stint → Lending) (xs : List Stint) (i : ℕ) (x : Stint) → i < length xs → x ≡ get_or xs i x → slice_get (map see (map stint_in xs)) i ≡ Some (see (stint_in x))
+pub stint_lent : (see : state.Stint → Lending) (xs : List Stint) (i : ℕ) (x : Stint) → i < length xs → x ≡ get_or xs i x
+    → slice_get (map see (map stint_in xs)) i ≡ Some (see (stint_in x))
 stint_lent see xs i x inside here =
     let m = length-map xs stint_in in
     let n = length-map (map stint_in xs) see in
@@ -229,7 +250,8 @@ some_same : {X : Type 0} (x y : X) → Some x ≡ Some y → x ≡ y
 some_same x y e = cc
 
 -- a stint is of a number of the pool
-pub pooled_number : (ps : List Place) (claimed : List Bool) (xs : List Stint) (i : ℕ) (x : Stint) → AreLent ps claimed xs → i < length xs → x ≡ get_or xs i x → is_some (get_or (map pool_kind_in ps) x.d None) ≡ true
+pub pooled_number : (ps : List Place) (claimed : List Bool) (xs : List Stint) (i : ℕ) (x : Stint) → AreLent ps claimed xs → i < length xs → x ≡ get_or xs i x
+    → is_some (get_or (map pool_kind_in ps) x.d None) ≡ true
 pooled_number ps claimed xs i x lent inside here =
     let n = length-map xs stint_in in
     let Q : state.Stint → Type 0 = λ y. is_some (get_or (map pool_kind_in ps) y.device None) ≡ true in
@@ -247,8 +269,10 @@ told_given k x device is kept =
     }
 
 -- and one that wasn't
-pub told_held : (size : ℕ) (served : Bool) (claimed : List Bool) (ps : List Place) (xs : List Stint) (texts : List Spooled) (asked : ℕ) (words : List ℕ) (x : Stint) (device : Device)
-    → x.left ≡ None → get_or ps x.d Absent ≡ Pooled device → IsWhole (get_or ps x.d Absent) → IsStint (lending_of (stock size served claimed ps xs texts asked words) (stint_in x)) x.d false device
+pub told_held : (size : ℕ) (served : Bool) (claimed : List Bool) (ps : List Place) (xs : List Stint) (texts : List Spooled) (asked : ℕ) (words : List ℕ)
+    (x : Stint) (device : Device)
+    → x.left ≡ None → get_or ps x.d Absent ≡ Pooled device → IsWhole (get_or ps x.d Absent)
+    → IsStint (lending_of (stock size served claimed ps xs texts asked words) (stint_in x)) x.d false device
 told_held size served claimed ps xs texts asked words x device none is whole =
     let k = stock size served claimed ps xs texts asked words in
     record {
@@ -260,9 +284,12 @@ told_held size served claimed ps xs texts asked words x device none is whole =
 
 -- ---- a device of the pool is taken
 
-pub stock_taken : (size : ℕ) (served : Bool) (claimed : List Bool) (ps : List Place) (xs ys : List Stint) (texts : List Spooled) (asked : ℕ) (words : List ℕ) (kind : Kind) (a d n : ℕ)
-    → may_take (claims size served claimed ps) kind ≡ true → d ≡ taken (claims size served claimed ps) kind a → n ≡ d → ys ≡ xs ++ record { d = d; left = None } ∷ []
-    → stock size served (set claimed n true) ps ys texts (asked + 1) words ≡ at_once (Asks (FreeOf kind) (taken (claims size served claimed ps) kind a)) (stock size served claimed ps xs texts asked words)
+pub stock_taken : (size : ℕ) (served : Bool) (claimed : List Bool) (ps : List Place) (xs ys : List Stint) (texts : List Spooled) (asked : ℕ) (words : List ℕ)
+    (kind : Kind) (a d n : ℕ)
+    → may_take (claims size served claimed ps) kind ≡ true → d ≡ taken (claims size served claimed ps) kind a → n ≡ d
+    → ys ≡ xs ++ record { d = d; left = None } ∷ []
+    → stock size served (set claimed n true) ps ys texts (asked + 1) words ≡ at_once (Asks (FreeOf kind) (taken (claims size served claimed ps) kind a))
+    (stock size served claimed ps xs texts asked words)
 stock_taken size served claimed ps xs ys texts asked words kind a d n may is same pushed =
     let c = claims size served claimed ps in
     let e : ℕ = taken c kind (taken c kind a) in

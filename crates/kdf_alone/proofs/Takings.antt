@@ -14,11 +14,13 @@ use Rattle.kdf_transfer.specs.declared.test.Test.TheVariants.{Flag, Start, Mark}
 use Rattle.kdf_transfer.specs.declared.wanted.Wanted.TheVariants.{Kinded, Labelled}
 use Rattle.kdf_processor.specs.declared.registers.Registers.{Registers}
 use Rattle.kdf_processor.specs.Claims.{claim, free_for, is_claimed, kind_numbered, least_pooled, may_take, taken}
-use Rattle.kdf_processor.specs.Effect.{Change, Refused, Going, of_change, Effect, Failing, Ending, Changing, Fetching, Keeping, Testing, Starting, Asking, IsBusy, IsOut, Time, FreeOf, OfService, Claiming, Returning, Spooling}
+use Rattle.kdf_processor.specs.Effect.{Change, Refused, Going, of_change, Effect, Failing, Ending, Changing, Fetching, Keeping, Testing, Starting, Asking}
+use Rattle.kdf_processor.specs.Effect.{IsBusy, IsOut, Time, FreeOf, OfService, Claiming, Returning, Spooling}
 use Rattle.kdf_processor.specs.Needs.{effect_or_liv, next_effect, order_at}
 use Rattle.kdf_processor.specs.Row.{done_by, next_of, perform, row, taking}
 use Rattle.kdf_processor.specs.State.{Claims, State, word_at}
-use Rattle.kdf_processor.specs.Table.{asks_service, claims_found, claims_kind, claims_or_takes, direct_effect, effect, guarded, has_bit, indirect_effect, indirect_half, is_area, moves, on_top, out_effect, query_effect, starts, transfer_of, with_nest}
+use Rattle.kdf_processor.specs.Table.{asks_service, claims_found, claims_kind, claims_or_takes, direct_effect, effect, guarded, has_bit, indirect_effect}
+use Rattle.kdf_processor.specs.Table.{indirect_half, is_area, moves, on_top, out_effect, query_effect, starts, transfer_of, with_nest}
 use Rattle.kdf_processor.proofs.EachEffect.{each_effect}
 use Rattle.kdf_processor.proofs.Fit.{IsFit, next_fit}
 use Rattle.kdf_processor.proofs.Stinting.{taken_can}
@@ -37,7 +39,8 @@ either_by : (c : Claims) (b : Bool) (x y : Effect) → IsByTaken c x → IsByTak
 either_by c true x y hx hy = hx
 either_by c false x y hx hy = hy
 
-top_by : (c : Claims) (nest : List ℕ) (f : ℕ → List ℕ → Effect) → ((n : ℕ) (below : List ℕ) → IsByTaken c (f n below)) → IsByTaken c (on_top (Failing Nouv) nest f)
+top_by : (c : Claims) (nest : List ℕ) (f : ℕ → List ℕ → Effect) → ((n : ℕ) (below : List ℕ) → IsByTaken c (f n below))
+    → IsByTaken c (on_top (Failing Nouv) nest f)
 top_by c [] f h = tt
 top_by c (n ∷ below) f h = h n below
 
@@ -119,7 +122,8 @@ out_by c r number below =
 
 effect_by : (c : Claims) (r : Registers) (o : Order) → IsByTaken c (effect c r o)
 effect_by c r =
-    each_effect c r (IsByTaken c) (IsByTaken c) (guarded_by c) (change_by c) (top_by c r.nest (out_effect c r) (λ n below. out_by c r n below)) (indirect_by c r) (direct_by c r)
+    each_effect c r (IsByTaken c) (IsByTaken c) (guarded_by c) (change_by c) (top_by c r.nest (out_effect c r) (λ n below. out_by c r n below))
+    (indirect_by c r) (direct_by c r)
     (λ code q. starts_by c r (triple_at r.q q) (transfer_of code (triple_at r.q q).m)) (λ b q. query_by c r b (triple_at r.q q))
 
 or_liv_by : (c : Claims) (r : Registers) (o : Option Order) → IsByTaken c (effect_or_liv c r o)
@@ -143,7 +147,11 @@ performed s a (Asking (IsBusy d) after) fit by = refl
 performed s a (Asking (IsOut first last) after) fit by = refl
 performed s a (Asking Time after) fit by = refl
 performed s a (Asking (FreeOf kind) after) fit by =
-    ap₂ (λ (r : Registers) (d : ℕ). (let t : State = record { registers = record r { ran = s.registers.ran + 1; state = s.registers.state }; stock = taking d (record s.stock { asked = s.stock.asked + 1 }) } in t))
+    ap₂ (λ (r : Registers) (d : ℕ). (let t : State = record {
+      registers = record r { ran = s.registers.ran + 1; state = s.registers.state };
+      stock =
+          taking d (record s.stock { asked = s.stock.asked + 1 });
+    } in t))
     (by a fit) (taken_again s.stock.claims kind a fit)
 performed s a (Asking (OfService word) after) fit by = refl
 performed s a (Claiming d after) fit by = refl

@@ -37,7 +37,8 @@ fits_scaled (negsuc a) n h =
     let p : 2 ^ n * 2 ^ (94 - n) ≡ 2 ^ 94 = powers n 94 h in
     let some = pow_pos n in
     let least = pow_pos (94 - n) in
-    ap double_fits (negative_times a (2 ^ n) some) ∙ elim (cases_lt a (2 ^ (94 - n))) as (λ _. double_fits (negsuc (suc a * 2 ^ n - 1)) ≡ is_sign (floor_div (negsuc a) (2 ^ (94 - n)))) [
+    ap double_fits (negative_times a (2 ^ n) some)
+    ∙ elim (cases_lt a (2 ^ (94 - n))) as (λ _. double_fits (negsuc (suc a * 2 ^ n - 1)) ≡ is_sign (floor_div (negsuc a) (2 ^ (94 - n)))) [
       | inl l ↦ let below : suc a ≤ 2 ^ (94 - n) = omega arith in
           let times : suc a * 2 ^ n ≤ 2 ^ (94 - n) * 2 ^ n = mul-le-mul_right (2 ^ n) below in
           let fits : (suc a * 2 ^ n - 1) / 2 ^ 47 < 2 ^ 47 = omega arith in

@@ -1,5 +1,6 @@
 -- Values times and over powers of two.
-use Rattle.std.proofs.Common.{◌≡◌, ℕ, suc, ◌+◌, ◌-◌, ◌*◌, ◌/◌, ◌^◌, ◌<◌, ◌≤◌, min, true, ℤ, pos, negsuc, ◌+ℤ◌, FitsSigned, to_z, of_z, refl, sym, ap, ◌∙◌, inl, inr, arith, pow-suc}
+use Rattle.std.proofs.Common.{◌≡◌, ℕ, suc, ◌+◌, ◌-◌, ◌*◌, ◌/◌, ◌^◌, ◌<◌, ◌≤◌, min, true, ℤ, pos, negsuc, ◌+ℤ◌, FitsSigned, to_z, of_z, refl, sym, ap, ◌∙◌, inl}
+use Rattle.std.proofs.Common.{inr, arith, pow-suc}
 use Rattle.std.specs.Int.{w128}
 use Rattle.std.specs.Int.Signed.{mag, mag_shr, shr_z}
 use Rattle.std.proofs.lemmas.Int.{ints, to_z-of_z}
@@ -43,7 +44,8 @@ floor_fits (negsuc a) m h =
 pub rounded_half : (v : ℤ) (k : ℕ) → floor_div (floor_div v (2 ^ k) +ℤ pos 1) 2 ≡ floor_div (v +ℤ pos (2 ^ k)) (2 ^ suc k)
 rounded_half (pos a) k =
     let least = pow_pos k in
-    ap (λ x. pos (x / 2)) (sym (add-div_right a least)) ∙ ap pos (div-div-eq-div-mul (a + 2 ^ k) (2 ^ k) 2) ∙ ap (λ x. pos ((a + 2 ^ k) / x)) (sym (pow-suc 2 k))
+    ap (λ x. pos (x / 2)) (sym (add-div_right a least)) ∙ ap pos (div-div-eq-div-mul (a + 2 ^ k) (2 ^ k) 2)
+    ∙ ap (λ x. pos ((a + 2 ^ k) / x)) (sym (pow-suc 2 k))
 rounded_half (negsuc a) k =
     let least = pow_pos k in
     elim (cases_lt a (2 ^ k)) [
@@ -58,7 +60,8 @@ rounded_half (negsuc a) k =
           let quotient : a / 2 ^ k ≡ (a - 2 ^ k) / 2 ^ k + 1 = rw e at one_less in
           let left : negsuc (a / 2 ^ k) +ℤ pos 1 ≡ negsuc ((a - 2 ^ k) / 2 ^ k) = omega (arith, ints) in
           let right : negsuc a +ℤ pos (2 ^ k) ≡ negsuc (a - 2 ^ k) = omega (arith, ints) in
-          ap (λ x. floor_div x 2) left ∙ ap negsuc (div-div-eq-div-mul (a - 2 ^ k) (2 ^ k) 2 ∙ ap (λ x. (a - 2 ^ k) / x) (sym (pow-suc 2 k))) ∙ sym (ap (λ x. floor_div x (2 ^ suc k)) right)
+          ap (λ x. floor_div x 2) left ∙ ap negsuc (div-div-eq-div-mul (a - 2 ^ k) (2 ^ k) 2 ∙ ap (λ x. (a - 2 ^ k) / x) (sym (pow-suc 2 k)))
+          ∙ sym (ap (λ x. floor_div x (2 ^ suc k)) right)
     ]
 
 pub one_more_fits : (z : ℤ) → double_fits z ≡ true → FitsSigned w128 (z +ℤ pos 1)

@@ -1,5 +1,6 @@
 -- The orders of arithmetic as a table: how each changes the nest, which is written top first.
-use Rattle.std.specs.Prelude.{ℕ, suc, ◌-◌, ◌^◌, Bool, true, false, not, List, [], ◌∷◌, ◌++◌, Option, Some, None, if◌then◌else◌, ◌==◌, ℤ, pos, negsuc, neg_ℤ, ◌+ℤ◌, ◌-ℤ◌, ◌*ℤ◌, bit_and, bit_or, bit_xor, count_ones, unsigned_abs}
+use Rattle.std.specs.Prelude.{ℕ, suc, ◌-◌, ◌^◌, Bool, true, false, not, List, [], ◌∷◌, ◌++◌, Option, Some, None, if◌then◌else◌, ◌==◌, ℤ, pos, negsuc, neg_ℤ}
+use Rattle.std.specs.Prelude.{◌+ℤ◌, ◌-ℤ◌, ◌*ℤ◌, bit_and, bit_or, bit_xor, count_ones, unsigned_abs}
 use Rattle.kdf_word.specs.Words.{signed, word_of, fits}
 use Rattle.kdf_word.specs.Doubles.{floor_div, double_of, double_fits, upper_of, lower_of}
 use Rattle.kdf_arith.specs.Digits.{to_binary, from_binary}

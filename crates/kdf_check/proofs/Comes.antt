@@ -13,7 +13,8 @@ use Rattle.kdf_theory.specs.World.{World, first_need}
 use Rattle.kdf_check.specs.Watching.{view_in}
 
 -- an effect comes to the same by what is shown and by the state alone
-done-same : (w : World) (answer : Question → ℕ) (p : ℕ) (r : Registers) (e : Effect) → done (view_in w answer p) r e ≡ done (by_itself answer (w.state p).stock) r e
+done-same : (w : World) (answer : Question → ℕ) (p : ℕ) (r : Registers) (e : Effect)
+    → done (view_in w answer p) r e ≡ done (by_itself answer (w.state p).stock) r e
 done-same w answer p r (Failing kind) = refl
 done-same w answer p r (Ending after) = refl
 done-same w answer p r (Changing after) = refl
@@ -35,7 +36,9 @@ pending-same : (w : World) (answer : Question → ℕ) (p : ℕ) (ns : List Need
 pending-same w answer p ns = ap (λ (f : Need → Bool). find f ns) (fun_ext (pending-one w answer p))
 
 -- it is held by the first of its needs that is pending, or comes to what it comes to by itself
-pub tried_lem : (w : World) (answer : Question → ℕ) (p : ℕ) → outcome (view_in w answer p) (w.state p).registers ≡ held_or (w.state p).registers (first_need w p) (next_of (w.state p) answer)
+pub tried_lem : (w : World) (answer : Question → ℕ) (p : ℕ) → outcome (view_in w answer p) (w.state p).registers ≡ held_or (w.state p).registers
+    (first_need w p) (next_of (w.state p) answer)
 unfolding first_need
 tried_lem w answer p =
-    ap₂ (held_or (w.state p).registers) (pending-same w answer p (needs (w.state p) (w.mine p))) (done-same w answer p (w.state p).registers (next_effect (w.state p)))
+    ap₂ (held_or (w.state p).registers) (pending-same w answer p (needs (w.state p) (w.mine p)))
+    (done-same w answer p (w.state p).registers (next_effect (w.state p)))

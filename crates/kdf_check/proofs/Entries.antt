@@ -18,7 +18,8 @@ use Rattle.kdf_check.specs.Entered.{entered, IsNote}
 
 -- an order that is obeyed, by what it does
 effect_entered : (J : List Entry) (p : ℕ) (answer : Question → ℕ) (e : Effect) (s : State)
-    → entered J p (done_by answer e s).step (entry_after p (s.registers.ran + 1) (done_by answer e s).act None) ≡ added J (Obeys p (note_of_outcome (done_by answer e s)))
+    → entered J p (done_by answer e s).step (entry_after p (s.registers.ran + 1) (done_by answer e s).act None)
+    ≡ added J (Obeys p (note_of_outcome (done_by answer e s)))
 effect_entered J p answer (Failing kind) s = refl
 effect_entered J p answer (Ending after) s = refl
 effect_entered J p answer (Changing after) s = refl

@@ -1,5 +1,6 @@
 -- Verdicts, by the first place at which lines differ from the journal.
-use Rattle.std.proofs.Common.{◌≡◌, ◌≢◌, ℕ, zero, suc, ◌+◌, ◌^◌, ◌<◌, ◌≤◌, ◌⊎◌, inl, inr, ⊎_elim, List, [], ◌∷◌, length, take, min, Option, refl, sym, ◌∙◌, ap, arith}
+use Rattle.std.proofs.Common.{◌≡◌, ◌≢◌, ℕ, zero, suc, ◌+◌, ◌^◌, ◌<◌, ◌≤◌, ◌⊎◌, inl, inr, ⊎_elim, List, [], ◌∷◌, length, take, min, Option, refl, sym, ◌∙◌, ap}
+use Rattle.std.proofs.Common.{arith}
 use Rattle.std.proofs.lemmas.Bool.{cases_eq, cases_lt}
 use Rattle.std.proofs.lemmas.List.{take_all, length-take}
 use Rattle.kdf_transfer.specs.Slots.{Slot}
@@ -35,7 +36,8 @@ within xs ys n d past =
     let same' : take (n + 1) ys ≡ ys = take_all (n + 1) ys (omega arith) in
     d.here (all' ∙ sym all ∙ d.alike ∙ same ∙ sym same')
 
-module _ (answers : ℕ → ℕ → Type 0) (one : (n a b : ℕ) → n < 2 ^ 48 → answers n a → answers n b → a ≡ b) (slots : List Slot) (events : List Event) (lines : List (Option Entry)) (J : List Entry) (j : IsJournalFor answers slots events J) where
+module _ (answers : ℕ → ℕ → Type 0) (one : (n a b : ℕ) → n < 2 ^ 48 → answers n a → answers n b → a ≡ b) (slots : List Slot) (events : List Event)
+    (lines : List (Option Entry)) (J : List Entry) (j : IsJournalFor answers slots events J) where
   the_one : (K : List Entry) → IsJournalFor answers slots events K → K ≡ J
   the_one K k = one_for answers slots one events K J k j
 

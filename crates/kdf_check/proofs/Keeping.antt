@@ -1,5 +1,6 @@
 -- The programs go on keeping to the journal, whatever step follows.
-use Rattle.std.proofs.Common.{◌≡◌, ◌≢◌, ℕ, ◌<◌, ◌≤◌, true, not, List, [], length, get_or, set, Option, Some, None, is_some, refl, sym, ap, ◌∙◌, subst, ⊎_elim, arith}
+use Rattle.std.proofs.Common.{◌≡◌, ◌≢◌, ℕ, ◌<◌, ◌≤◌, true, not, List, [], length, get_or, set, Option, Some, None, is_some, refl, sym, ap, ◌∙◌, subst, ⊎_elim}
+use Rattle.std.proofs.Common.{arith}
 use Rattle.std.specs.Option.{option_map}
 use Rattle.std.proofs.lemmas.Bool.{cases_eq, cases_lt, true≢false}
 use Rattle.std.proofs.Math.ListN.{get_or-eq_default}
@@ -59,11 +60,13 @@ placed-within programs p x is =
     none_some x e = cc
 
 -- a program without a slot isn't next
-pub next_some : (slots : List Slot) (J : List Entry) (p : ℕ) (o : Option Program) → IsKeptAt slots J p o → next (lone_world slots J) slots J ≡ Some p → (x : Program) × (o ≡ Some x) × IsFollowed slots J p x
+pub next_some : (slots : List Slot) (J : List Entry) (p : ℕ) (o : Option Program) → IsKeptAt slots J p o → next (lone_world slots J) slots J ≡ Some p
+    → (x : Program) × (o ≡ Some x) × IsFollowed slots J p x
 next_some slots J p None none is = absurd (true≢false (sym (next_slot (lone_world slots J) slots J p is) ∙ none))
 next_some slots J p (Some x) f is = (x, refl, f)
 
-module _ (answers : ℕ → ℕ → Type 0) (slots : List Slot) (J : List Entry) (table : List (Option Pending)) (programs : List (Option Program)) (k : Keeps answers slots J table programs) where
+module _ (answers : ℕ → ℕ → Type 0) (slots : List Slot) (J : List Entry) (table : List (Option Pending)) (programs : List (Option Program))
+    (k : Keeps answers slots J table programs) where
   -- ---- the program that is next
   module _ (p : ℕ) (x : Program) (f : IsFollowed slots J p x) (next_is : next (lone_world slots J) slots J ≡ Some p) where
     on : not (over p J) ≡ true
@@ -87,7 +90,8 @@ module _ (answers : ℕ → ℕ → Type 0) (slots : List Slot) (J : List Entry)
 
     pub next-ran : calls J < 20000000 → x.registers.ran < 20000000
     next-ran few =
-        let same : x.registers.ran ≡ ran p J = ap (λ (s : State). s.registers.ran) f.own_is ∙ own-ran slots J p (ap (λ (s : State). is_live s.registers.state) (sym f.own_is) ∙ on_live) in
+        let same : x.registers.ran ≡ ran p J = ap (λ (s : State). s.registers.ran) f.own_is
+        ∙ own-ran slots J p (ap (λ (s : State). is_live s.registers.state) (sym f.own_is) ∙ on_live) in
         omega (arith, same, ran-le-calls p J, few)
 
     pub next-asked : calls J < 20000000 → (state_with x.registers x.bench).stock.asked < 20000000
@@ -141,13 +145,16 @@ module _ (answers : ℕ → ℕ → Type 0) (slots : List Slot) (J : List Entry)
       tells = t.tells;
       four = length-set programs p (Some x) ∙ k.four;
       each = λ q. ⊎_elim
-          (λ (is : q ≡ p). subst (λ (r : ℕ). IsKeptAt slots K r (place_at (set programs p (Some x)) r)) (sym is) (subst (IsKeptAt slots K p) (sym (get_or-set_same programs p (Some x) None lt)) kept-here))
-          (λ (ne : q ≢ p). subst (IsKeptAt slots K q) (sym (get_or-set_other programs p q (Some x) None ne)) (kept-other q (place_at programs q) (λ e. ne (sym e)) (k.each q)))
+          (λ (is : q ≡ p). subst (λ (r : ℕ). IsKeptAt slots K r (place_at (set programs p (Some x)) r)) (sym is)
+          (subst (IsKeptAt slots K p) (sym (get_or-set_same programs p (Some x) None lt)) kept-here))
+          (λ (ne : q ≢ p). subst (IsKeptAt slots K q) (sym (get_or-set_other programs p q (Some x) None ne))
+          (kept-other q (place_at programs q) (λ e. ne (sym e)) (k.each q)))
           (cases_eq q p);
     }
 
   -- ---- after a step that no program's order makes
-  module _ (s : Step) (table' : List (Option Pending)) (meets : Meets (lone_world slots J) slots J 0 s) (noted : Noted (is_true_for answers slots J) s) (tells : Tells slots (added J s) table')
+  module _ (s : Step) (table' : List (Option Pending)) (meets : Meets (lone_world slots J) slots J 0 s) (noted : Noted (is_true_for answers slots J) s)
+      (tells : Tells slots (added J s) table')
       (none_ran : (q : ℕ) → ran_by q s ≡ 0) (none_told : (q : ℕ) → answers_by q s ≡ []) (holds : (q : ℕ) (o : Option Hold) → hold_by q o s ≡ o) where
     still-at : (q : ℕ) (o : Option Program) → IsKeptAt slots J q o → IsKeptAt slots (added J s) q o
     still-at q None none = none

@@ -1,5 +1,6 @@
 -- The programs that are loaded keep to the empty journal.
-use Rattle.std.proofs.Common.{◌≡◌, ◌≢◌, ℕ, zero, suc, ◌+◌, ◌-◌, ◌<◌, ◌≤◌, List, [], ◌∷◌, length, drop, drop-cons, add-one, get_or, set, Option, Some, None, is_some, cond, refl, sym, ap, ap₂, ◌∙◌, subst, ⊎_elim, arith}
+use Rattle.std.proofs.Common.{◌≡◌, ◌≢◌, ℕ, zero, suc, ◌+◌, ◌-◌, ◌<◌, ◌≤◌, List, [], ◌∷◌, length, drop, drop-cons, add-one, get_or, set, Option, Some, None}
+use Rattle.std.proofs.Common.{is_some, cond, refl, sym, ap, ap₂, ◌∙◌, subst, ⊎_elim, arith}
 use Rattle.std.proofs.lemmas.Bool.{cases_eq, eq-eqb, ne_eqb}
 use Rattle.std.proofs.lemmas.List.{get_or-set_same, get_or-set_other}
 use Rattle.kdf_transfer.specs.Slots.{Slot}
@@ -23,7 +24,8 @@ pub none_kept : (p : ℕ) → IsKeptAt [] [] p (place_at (None ∷ None ∷ None
 none_kept p = subst (IsKeptAt [] [] p) (sym (none_placed p)) refl
 
 -- a slot more before the others
-module _ (s : Slot) (rest : List Slot) (programs : List (Option Program)) (x : Program) (b : IsBegun s x) (lt : s.p < length programs) (each : (p : ℕ) → IsKeptAt rest [] p (place_at programs p)) where
+module _ (s : Slot) (rest : List Slot) (programs : List (Option Program)) (x : Program) (b : IsBegun s x) (lt : s.p < length programs)
+    (each : (p : ℕ) → IsKeptAt rest [] p (place_at programs p)) where
   found : slot_of (s ∷ rest) s.p ≡ Some s
   found = ap (λ t. cond t (Some s) (slot_of rest s.p)) (eq-eqb s.p s.p refl)
 
@@ -49,8 +51,10 @@ module _ (s : Slot) (rest : List Slot) (programs : List (Option Program)) (x : P
   pub before_others : (p : ℕ) → IsKeptAt (s ∷ rest) [] p (place_at (set programs s.p (Some x)) p)
   before_others p =
       ⊎_elim
-      (λ (is : p ≡ s.p). subst (λ (q : ℕ). IsKeptAt (s ∷ rest) [] q (place_at (set programs s.p (Some x)) q)) (sym is) (subst (IsKeptAt (s ∷ rest) [] s.p) (sym (get_or-set_same programs s.p (Some x) None lt)) here))
-      (λ (ne : p ≢ s.p). subst (IsKeptAt (s ∷ rest) [] p) (sym (get_or-set_other programs s.p p (Some x) None ne)) (other p (λ e. ne (sym e)) (place_at programs p) (each p)))
+      (λ (is : p ≡ s.p). subst (λ (q : ℕ). IsKeptAt (s ∷ rest) [] q (place_at (set programs s.p (Some x)) q)) (sym is)
+      (subst (IsKeptAt (s ∷ rest) [] s.p) (sym (get_or-set_same programs s.p (Some x) None lt)) here))
+      (λ (ne : p ≢ s.p). subst (IsKeptAt (s ∷ rest) [] p) (sym (get_or-set_other programs s.p p (Some x) None ne))
+      (other p (λ e. ne (sym e)) (place_at programs p) (each p)))
       (cases_eq p s.p)
 
 -- the slots from one on
@@ -66,7 +70,8 @@ same_count [] (words ∷ images) have = absurd have
 same_count (s ∷ jobs) [] have = absurd have
 same_count (s ∷ jobs) (words ∷ images) have = ap (λ n. suc n) (same_count jobs images have.1)
 
-pub fits_at : (jobs : List SlotJob) (images : List (List ℕ)) (i : ℕ) (j : SlotJob) (w : List ℕ) → HaveImages jobs images → i < length jobs → length (get_or images i w) ≤ (get_or jobs i j).size
+pub fits_at : (jobs : List SlotJob) (images : List (List ℕ)) (i : ℕ) (j : SlotJob) (w : List ℕ) → HaveImages jobs images → i < length jobs
+    → length (get_or images i w) ≤ (get_or jobs i j).size
 fits_at [] images i j w have lt = absurd (omega arith)
 fits_at (s ∷ jobs) [] i j w have lt = absurd have
 fits_at (s ∷ jobs) (words ∷ images) zero j w have lt = have.0
@@ -74,7 +79,8 @@ fits_at (s ∷ jobs) (words ∷ images) (suc i) j w have lt = fits_at jobs image
 
 module _ (jobs : List SlotJob) (images : List (List ℕ)) (same : length jobs ≡ length images) where
   -- one more
-  pub loaded-more : (i : ℕ) (programs : List (Option Program)) (j : SlotJob) (w : List ℕ) (x : Program) → 0 < i → i ≤ length jobs → j ≡ get_or jobs (i - 1) j → w ≡ get_or images (i - 1) w
+  pub loaded-more : (i : ℕ) (programs : List (Option Program)) (j : SlotJob) (w : List ℕ) (x : Program) → 0 < i → i ≤ length jobs → j ≡ get_or jobs (i - 1) j
+      → w ≡ get_or images (i - 1) w
       → ((p : ℕ) → IsKeptAt (slots_of (drop i jobs) (drop i images)) [] p (place_at programs p)) → IsBegun (slot_loaded (load_of j w)) x → j.p < length programs
       → (p : ℕ) → IsKeptAt (slots_of (drop (i - 1) jobs) (drop (i - 1) images)) [] p (place_at (set programs j.p (Some x)) p)
   loaded-more i programs j w x some le at at' each begun lt =
@@ -82,8 +88,10 @@ module _ (jobs : List SlotJob) (images : List (List ℕ)) (same : length jobs �
       (before_others (slot_loaded (load_of j w)) (slots_of (drop (i - 1 + 1) jobs) (drop (i - 1 + 1) images)) programs x begun lt
       (subst (λ (n : ℕ). (p : ℕ) → IsKeptAt (slots_of (drop n jobs) (drop n images)) [] p (place_at programs p)) (omega arith) each))
     where
-      front : slots_of (drop (i - 1) jobs) (drop (i - 1) images) ≡ slot_loaded (load_of (get_or jobs (i - 1) j) (get_or images (i - 1) w)) ∷ slots_of (drop (i - 1 + 1) jobs) (drop (i - 1 + 1) images)
+      front : slots_of (drop (i - 1) jobs) (drop (i - 1) images) ≡ slot_loaded (load_of (get_or jobs (i - 1) j) (get_or images (i - 1) w)) ∷ slots_of
+          (drop (i - 1 + 1) jobs) (drop (i - 1 + 1) images)
       front = slots-from (i - 1) jobs images j w (omega arith) (omega (arith, same))
 
-      head : slot_loaded (load_of (get_or jobs (i - 1) j) (get_or images (i - 1) w)) ∷ slots_of (drop (i - 1 + 1) jobs) (drop (i - 1 + 1) images) ≡ slot_loaded (load_of j w) ∷ slots_of (drop (i - 1 + 1) jobs) (drop (i - 1 + 1) images)
+      head : slot_loaded (load_of (get_or jobs (i - 1) j) (get_or images (i - 1) w)) ∷ slots_of (drop (i - 1 + 1) jobs) (drop (i - 1 + 1) images) ≡ slot_loaded
+          (load_of j w) ∷ slots_of (drop (i - 1 + 1) jobs) (drop (i - 1 + 1) images)
       head = ap₂ (λ (k : SlotJob) (v : List ℕ). slot_loaded (load_of k v) ∷ slots_of (drop (i - 1 + 1) jobs) (drop (i - 1 + 1) images)) (sym at) (sym at')

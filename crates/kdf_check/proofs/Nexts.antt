@@ -36,7 +36,8 @@ four_places (a ∷ b ∷ c ∷ []) e = absurd (omega (arith, e))
 four_places (a ∷ b ∷ c ∷ d ∷ []) e = refl
 four_places (a ∷ b ∷ c ∷ d ∷ x ∷ xs) e = absurd (omega (arith, e))
 
-module _ (answers : ℕ → ℕ → Type 0) (slots : List Slot) (J : List Entry) (table : List (Option Pending)) (programs : List (Option Program)) (k : Keeps answers slots J table programs) where
+module _ (answers : ℕ → ℕ → Type 0) (slots : List Slot) (J : List Entry) (table : List (Option Pending)) (programs : List (Option Program))
+    (k : Keeps answers slots J table programs) where
   -- a program that is followed is live until it has ended or failed
   pub alive : (p : ℕ) (x : Program) → IsFollowed slots J p x → is_live x.registers.state ≡ not (over p J)
   alive p x f = ap (λ (s : State). is_live s.registers.state) f.own_is ∙ legal_alive slots J k.legal p
@@ -55,7 +56,8 @@ module _ (answers : ℕ → ℕ → Type 0) (slots : List Slot) (J : List Entry)
   live-so places r b same found is = sym on-same ∙ ap (list_any is_on) (sym same) ∙ sym found ∙ is
 
   module _ (around : Around) (is : IsAround slots J around) where
-    stopped-by : (p : ℕ) (x : Program) (h : Option Hold) → x.p ≡ p → IsFollowed slots J p x → is_stopped around x (option_map need_of h) ≡ stands (lone_dispatched slots J) p h
+    stopped-by : (p : ℕ) (x : Program) (h : Option Hold) → x.p ≡ p → IsFollowed slots J p x
+        → is_stopped around x (option_map need_of h) ≡ stands (lone_dispatched slots J) p h
     stopped-by p x None n f = refl
     stopped-by p x (Some by) n f =
         ap₂ (λ (q : ℕ) (s : Stock). is_pending (shown_by q around s) (need_of by)) n (ap (λ (s : State). s.stock) f.own_is)
@@ -73,7 +75,8 @@ module _ (answers : ℕ → ℕ → Type 0) (slots : List Slot) (J : List Entry)
     next-same = ap (λ (f : ℕ → Bool). find f (priorities J)) (fun_ext (λ p. goes-at p (place_at programs p) (k.each p)))
 
     -- so it is found
-    pub found-next : (places : List (Option Program)) (order : List ℕ) (r : Option ℕ) → places ≡ programs → order ≡ priorities J → r ≡ find (λ (p : ℕ). goes around (place_at places p)) order → next (lone_world slots J) slots J ≡ r
+    pub found-next : (places : List (Option Program)) (order : List ℕ) (r : Option ℕ) → places ≡ programs → order ≡ priorities J
+        → r ≡ find (λ (p : ℕ). goes around (place_at places p)) order → next (lone_world slots J) slots J ≡ r
     found-next places order r same first found =
         sym next-same
         ∙ ap₂ (λ (xs : List (Option Program)) (ps : List ℕ). find (λ (p : ℕ). goes around (place_at xs p)) ps) (sym same) (sym first)

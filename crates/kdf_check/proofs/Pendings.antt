@@ -1,5 +1,6 @@
 -- What the tables tell is what is pending by the journal, and what is free of the pool.
-use Rattle.std.proofs.Common.{◌≡◌, ℕ, zero, suc, ◌+◌, ◌≤◌, ◌<◌, Bool, true, false, cond, not, ◌&&◌, ◌||◌, List, [], ◌∷◌, ◌++◌, length, find, get_or, take, Option, Some, None, is_some, unwrap_or, refl, sym, ap, ap₂, ◌∙◌, subst, ⊎_elim, arith, eqb}
+use Rattle.std.proofs.Common.{◌≡◌, ℕ, zero, suc, ◌+◌, ◌≤◌, ◌<◌, Bool, true, false, cond, not, ◌&&◌, ◌||◌, List, [], ◌∷◌, ◌++◌, length, find, get_or, take}
+use Rattle.std.proofs.Common.{Option, Some, None, is_some, unwrap_or, refl, sym, ap, ap₂, ◌∙◌, subst, ⊎_elim, arith, eqb}
 use Rattle.std.specs.List.{filter, list_any, range_with_len}
 use Rattle.std.proofs.Math.Path.{fun_ext}
 use Rattle.std.proofs.Math.Bool.{or_comm}
@@ -41,7 +42,9 @@ any-touched zero fs f table g le each = refl
 any-touched (suc n) fs f table g le each =
     let next : suc n ≡ n + 1 = omega arith in
     let more : take (suc n) table ≡ take n table ++ get_or table n None ∷ [] = ap (λ (i : ℕ). take i table) next ∙ take_more table n None (omega arith) in
-    ap (list_any f) more ∙ list_any-append f (take n table) (get_or table n None ∷ []) ∙ last (f (get_or table n None)) (list_any f (take n table)) (touches (fs n) g) (touched_below n fs g) (each n) (any-touched n fs f table g (omega arith) each)
+    ap (list_any f) more ∙ list_any-append f (take n table) (get_or table n None ∷ [])
+    ∙ last (f (get_or table n None)) (list_any f (take n table)) (touches (fs n) g) (touched_below n fs g) (each n)
+    (any-touched n fs f table g (omega arith) each)
   where
     last : (x xs t ts : Bool) → t ≡ x → xs ≡ ts → (xs || (x || false)) ≡ (t || ts)
     last true xs t ts e es = ap (λ b. b || true) es ∙ or_comm ts true ∙ ap (λ b. b || ts) (sym e)
@@ -94,7 +97,8 @@ module _ (slots : List Slot) (J : List Entry) (p : ℕ) where
     unfolding device_count
     out-same g =
         ap (list_any (covers p g)) (sym (take_all 16 around.table (omega (arith, is.tells.sixteen))))
-        ∙ any-touched 16 (flights_of slots J p) (covers p g) around.table g (omega (arith, is.tells.sixteen)) (λ d. touched-at d g (get_or around.table d None) (is.tells.each d))
+        ∙ any-touched 16 (flights_of slots J p) (covers p g) around.table g (omega (arith, is.tells.sixteen))
+        (λ d. touched-at d g (get_or around.table d None) (is.tells.each d))
 
     busy-same : (d : ℕ) → is_busy_in around.table d ≡ is_pending_after slots J p (Device d)
     busy-same d = busy-at d (get_or around.table d None) (is.tells.each d)

@@ -1,5 +1,6 @@
 -- Lines that are compared with entries, one after another.
-use Rattle.std.proofs.Common.{◌≡◌, ◌≢◌, ℕ, suc, ◌+◌, ◌<◌, ◌≤◌, Bool, false, cond, List, [], ◌∷◌, ◌++◌, length, length-take, get_or, take, drop, drop-cons, Option, Some, None, sym, ap, ◌∙◌, subst, arith, append_assoc}
+use Rattle.std.proofs.Common.{◌≡◌, ◌≢◌, ℕ, suc, ◌+◌, ◌<◌, ◌≤◌, Bool, false, cond, List, [], ◌∷◌, ◌++◌, length, length-take, get_or, take, drop, drop-cons}
+use Rattle.std.proofs.Common.{Option, Some, None, sym, ap, ◌∙◌, subst, arith, append_assoc}
 use Rattle.std.specs.Prelude.{IfNone, IfSome}
 use Rattle.std.proofs.lemmas.List.{map-append, length-map, take-append-drop, take_more}
 use Rattle.kdf_text.specs.Lines.{line}
@@ -18,7 +19,8 @@ told-next (x ∷ xs) l some is goes =
     ∙ ap (λ (b : Bool). cond b [] (entry_in l ∷ told_from xs)) goes
 
 -- what was read first of the lines isn't this entry
-pub other-first : (r : Option (Option Entry)) (xs ys zs : List (Option Entry)) (e : Entry) → IfSome r (λ x. xs ≡ x ∷ ys) → IfNone r (xs ≡ []) → r ≢ Some (Some e) → take 1 xs ≢ take 1 (Some e ∷ zs)
+pub other-first : (r : Option (Option Entry)) (xs ys zs : List (Option Entry)) (e : Entry) → IfSome r (λ x. xs ≡ x ∷ ys) → IfNone r (xs ≡ [])
+    → r ≢ Some (Some e) → take 1 xs ≢ take 1 (Some e ∷ zs)
 other-first None xs ys zs e some none apart = rw none (λ same. cc)
 other-first (Some x) xs ys zs e some none apart = rw some (λ same. apart (let one : x ≡ Some e = cc in ap (λ (y : Option Entry). Some y) one))
 
@@ -49,4 +51,5 @@ module _ (es : List Entry) (all rest : List (Option Entry)) (i : ℕ) (alike : a
       alike
       ∙ ap (λ (xs : List (Option Entry)). told (take i es) ++ xs) (is ∙ ap (λ (x : Entry). Some x ∷ more) (sym here))
       ∙ sym (append_assoc (told (take i es)) (Some (get_or es i d) ∷ []) more)
-      ∙ ap (λ (xs : List (Option Entry)). xs ++ more) (sym (ap told (take_more es i d lt) ∙ map-append (λ (e : Entry). Some e) (take i es) (get_or es i d ∷ [])))
+      ∙ ap (λ (xs : List (Option Entry)). xs ++ more)
+      (sym (ap told (take_more es i d lt) ∙ map-append (λ (e : Entry). Some e) (take i es) (get_or es i d ∷ [])))

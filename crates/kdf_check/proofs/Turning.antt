@@ -50,7 +50,8 @@ pub record IsTurned (answers : ℕ → ℕ → Type 0) (slots : List Slot) (J : 
   pub tells : Tells slots K table
 
 -- what a turn leaves: the program's lone state by the journal with its step, the others', what holds each, and the table
-record IsTurn (slots : List Slot) (J : List Entry) (p : ℕ) (ending : Ending) (registers : Registers) (bench : Bench) (table : List (Option Pending)) (entry : Option Entry) (K : List Entry) : Type 0 where
+record IsTurn (slots : List Slot) (J : List Entry) (p : ℕ) (ending : Ending) (registers : Registers) (bench : Bench) (table : List (Option Pending))
+    (entry : Option Entry) (K : List Entry) : Type 0 where
   pub state : state_with registers bench ≡ own slots K p
   pub others : (q : ℕ) → p ≢ q → own slots K q ≡ own slots J q
   pub hold : hold_left ending ≡ option_map need_of (last_hold p K)
@@ -79,7 +80,8 @@ module _ (slots : List Slot) (J : List Entry) (p : ℕ) (around : Around) (endin
   hold_there : (q : ℕ) (o : Option Hold) → p ≢ q → cond (eqb p q) o (last_hold q J) ≡ last_hold q J
   hold_there q o ne = ap (λ b. cond b o (last_hold q J)) (ne_eqb p q ne)
 
-  left_by : (x : Program) (table : List (Option Pending)) (entry : Option Entry) (o : Option Need) → first_need (lone_world slots J) p ≡ o → IsTried slots J p around (outcome_by slots J heard p o) ending x.registers x.bench table entry
+  left_by : (x : Program) (table : List (Option Pending)) (entry : Option Entry) (o : Option Need) → first_need (lone_world slots J) p ≡ o
+      → IsTried slots J p around (outcome_by slots J heard p o) ending x.registers x.bench table entry
       → IsTurn slots J p ending x.registers x.bench table entry (added J (step_by slots J heard p o))
   left_by x table entry None free t =
       let meets = meets_by None free in
@@ -97,7 +99,8 @@ module _ (slots : List Slot) (J : List Entry) (p : ℕ) (around : Around) (endin
       record {
         state = t.state ∙ sym (own-same slots J (Holds p by) p refl refl);
         others = λ q ne. own-same slots J (Holds p by) q refl refl;
-        hold = ap hold_left t.ending_is ∙ ap (λ (n : Need). Some n) (sym (need_again need)) ∙ ap (option_map need_of) (sym (last_hold-added p J (Holds p by) ∙ hold_here (Some by)));
+        hold = ap hold_left t.ending_is ∙ ap (λ (n : Need). Some n) (sym (need_again need))
+            ∙ ap (option_map need_of) (sym (last_hold-added p J (Holds p by) ∙ hold_here (Some by)));
         other_holds = λ q ne. last_hold-added q J (Holds p by) ∙ hold_there q (Some by) ne;
         tells = subst (Tells slots (added J (Holds p by))) (sym t.table_is) (held_keeps slots J p by around.table are l tells);
         entered_is = ap (λ (e : Ending). entered J p e entry) t.ending_is ∙ held-entered J p need entry;
@@ -106,10 +109,13 @@ module _ (slots : List Slot) (J : List Entry) (p : ℕ) (around : Around) (endin
   turn_meets : Meets (lone_world slots J) slots J heard (step_of slots J heard p)
   turn_meets = meets_by (first_need (lone_world slots J) p) refl
 
-  turn_left : (x : Program) (table : List (Option Pending)) (entry : Option Entry) → IsTried slots J p around (outcome_of slots J heard p) ending x.registers x.bench table entry → IsTurn slots J p ending x.registers x.bench table entry (added J (step_of slots J heard p))
+  turn_left : (x : Program) (table : List (Option Pending)) (entry : Option Entry)
+      → IsTried slots J p around (outcome_of slots J heard p) ending x.registers x.bench table entry
+      → IsTurn slots J p ending x.registers x.bench table entry (added J (step_of slots J heard p))
   turn_left x table entry = left_by x table entry (first_need (lone_world slots J) p) refl
 
-  truly_by : (answers : ℕ → ℕ → Type 0) (o : Option Need) → (o ≡ None → IsHeard answers (own slots J p) heard) → Noted (is_true_for answers slots J) (step_by slots J heard p o)
+  truly_by : (answers : ℕ → ℕ → Type 0) (o : Option Need) → (o ≡ None → IsHeard answers (own slots J p) heard)
+      → Noted (is_true_for answers slots J) (step_by slots J heard p o)
   truly_by answers None is = heard_note answers slots J p heard (is refl)
   truly_by answers (Some need) is = tt
 
@@ -121,10 +127,20 @@ module _ (slots : List Slot) (J : List Entry) (p : ℕ) (around : Around) (endin
   turn_call = call_by (first_need (lone_world slots J) p)
 
   -- the turn as a whole, from what was entered
-  pub turned : (answers : ℕ → ℕ → Type 0) → (first_need (lone_world slots J) p ≡ None → IsHeard answers (own slots J p) heard) → (x : Program) (table : List (Option Pending)) (entry : Option Entry) (K : List Entry) → IsTried slots J p around (outcome_of slots J heard p) ending x.registers x.bench table entry → x.p ≡ p → x.hold ≡ hold_left ending → K ≡ entered J p ending entry
+  pub turned : (answers : ℕ → ℕ → Type 0) → (first_need (lone_world slots J) p ≡ None → IsHeard answers (own slots J p) heard)
+      → (x : Program) (table : List (Option Pending)) (entry : Option Entry) (K : List Entry)
+      → IsTried slots J p around (outcome_of slots J heard p) ending x.registers x.bench table entry → x.p ≡ p → x.hold ≡ hold_left ending
+      → K ≡ entered J p ending entry
       → IsTurned answers slots J p x table K
   turned answers is_heard x table entry K t p_is hold_is k = subst (IsTurned answers slots J p x table) (sym (k ∙ left.entered_is)) (record {
-    goes_on = record { step = s'; call = turn_call; heard = heard; meets = turn_meets; truly = truly_by answers (first_need (lone_world slots J) p) is_heard; entered = refl };
+    goes_on = record {
+      step = s';
+      call = turn_call;
+      heard = heard;
+      meets = turn_meets;
+      truly = truly_by answers (first_need (lone_world slots J) p) is_heard;
+      entered = refl;
+    };
     number = p_is;
     own_is = left.state;
     hold_is = hold_is ∙ left.hold;

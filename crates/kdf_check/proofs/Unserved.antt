@@ -22,7 +22,8 @@ use Rattle.kdf_check.specs.Report.{head_line, told_lines, IsCheck, IsJudged}
 use Rattle.kdf_check.specs.Verdict.{CanGoOn, IsVerdict}
 
 -- what an order that doesn't ask the service is answered
-same_answer : (answers more : ℕ → ℕ → Type 0) (slots : List Slot) (J : List Entry) (p : ℕ) (e : Effect) (v : ℕ) → word_asked e ≡ None → IsAnswer e (is_served answers slots J p) v → IsAnswer e (is_served more slots J p) v
+same_answer : (answers more : ℕ → ℕ → Type 0) (slots : List Slot) (J : List Entry) (p : ℕ) (e : Effect) (v : ℕ) → word_asked e ≡ None
+    → IsAnswer e (is_served answers slots J p) v → IsAnswer e (is_served more slots J p) v
 same_answer answers more slots J p (Asking (IsBusy d) after) v none is = is
 same_answer answers more slots J p (Asking (IsOut first last) after) v none is = is
 same_answer answers more slots J p (Asking Time after) v none is = is
@@ -31,11 +32,14 @@ same_answer answers more slots J p (Asking (OfService word) after) v none is = c
 same_answer answers more slots J p e v none is = tt
 
 same_note : (answers more : ℕ → ℕ → Type 0) (slots : List Slot) → NoneServed slots → course.IsWithin (is_true_for answers slots) (is_true_for more slots)
-same_note answers more slots none J p (Answered v) is = same_answer answers more slots J p (next_effect (own slots J p)) v (none_asked (own slots J p) (own_unserved slots none J p)) is
-same_note answers more slots none J p (Took d) is = same_answer answers more slots J p (next_effect (own slots J p)) d (none_asked (own slots J p) (own_unserved slots none J p)) is
+same_note answers more slots none J p (Answered v) is = same_answer answers more slots J p (next_effect (own slots J p)) v
+    (none_asked (own slots J p) (own_unserved slots none J p)) is
+same_note answers more slots none J p (Took d) is = same_answer answers more slots J p (next_effect (own slots J p)) d
+    (none_asked (own slots J p) (own_unserved slots none J p)) is
 same_note answers more slots none J p n is = tt
 
-same_journal : (answers more : ℕ → ℕ → Type 0) (slots : List Slot) → NoneServed slots → (events : List Event) (J : List Entry) → IsJournalFor answers slots events J → IsJournalFor more slots events J
+same_journal : (answers more : ℕ → ℕ → Type 0) (slots : List Slot) → NoneServed slots → (events : List Event) (J : List Entry)
+    → IsJournalFor answers slots events J → IsJournalFor more slots events J
 same_journal answers more slots none events J j = record {
   legal = j.legal;
   truly = each-noted-within (is_true_for answers slots) (is_true_for more slots) (same_note answers more slots none) (steps J) j.truly;
@@ -49,7 +53,8 @@ module _ (answers more : ℕ → ℕ → Type 0) (slots : List Slot) (none : Non
   back : (lines : List (Option Entry)) (k : ℕ) → CanGoOn more slots events lines k → CanGoOn answers slots events lines k
   back lines k g = (g.0, same_journal more answers slots none events g.0 g.1, g.2)
 
-  here : (lines : List (Option Entry)) (k : ℕ) → (k ≡ length lines + 1) ⊎ ((k ≤ length lines) × (CanGoOn answers slots events lines k → ⊥)) → (k ≡ length lines + 1) ⊎ ((k ≤ length lines) × (CanGoOn more slots events lines k → ⊥))
+  here : (lines : List (Option Entry)) (k : ℕ) → (k ≡ length lines + 1) ⊎ ((k ≤ length lines) × (CanGoOn answers slots events lines k → ⊥))
+      → (k ≡ length lines + 1) ⊎ ((k ≤ length lines) × (CanGoOn more slots events lines k → ⊥))
   here lines k (inl e) = inl e
   here lines k (inr w) = inr (w.0, λ g. w.1 (back lines k g))
 
@@ -64,7 +69,8 @@ module _ (answers more : ℕ → ℕ → Type 0) (slots : List Slot) (none : Non
     },
   )
 
-  judged-same : (b : Bool) (lines : List (Option Entry)) (v : Verdict) → IsJudged b (IsVerdict answers slots events lines v) v → IsJudged b (IsVerdict more slots events lines v) v
+  judged-same : (b : Bool) (lines : List (Option Entry)) (v : Verdict) → IsJudged b (IsVerdict answers slots events lines v) v
+      → IsJudged b (IsVerdict more slots events lines v) v
   judged-same true lines v is = verdict-same lines v is
   judged-same false lines v is = is
 

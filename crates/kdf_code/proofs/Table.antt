@@ -1,5 +1,6 @@
 -- What reading the whole table shows.
-use Rattle.std.proofs.Common.{◌≡◌, ℕ, ◌<◌, ◌≤◌, true, false, not, Option, Some, None, IfSome, get_or, map, eqb, ltb, ltb-true, eqb-true, refl, inl, inr, sym, ◌∙◌, ap, arith}
+use Rattle.std.proofs.Common.{◌≡◌, ℕ, ◌<◌, ◌≤◌, true, false, not, Option, Some, None, IfSome, get_or, map, eqb, ltb, ltb-true, eqb-true, refl, inl, inr, sym}
+use Rattle.std.proofs.Common.{◌∙◌, ap, arith}
 use Rattle.std.specs.Bool.{then_some}
 use Rattle.std.specs.Option.{unwrap_or}
 use Rattle.std.specs.List.{range_with_len, list_all}
@@ -62,7 +63,8 @@ code_of-not_ascii byte h =
 pub get_or-CODES : (byte : ℕ) → get_or CODES byte OFF ≡ unwrap_or (code_of byte) OFF
 get_or-CODES byte =
     elim (cases_lt byte 128) [
-      | inl below ↦ sym (ap (λ codes. get_or codes byte OFF) each_byte) ∙ get_or-map-range_with_len (λ b. unwrap_or (code_of b) OFF) 0 128 byte byte OFF below (omega arith)
+      | inl below ↦ sym (ap (λ codes. get_or codes byte OFF) each_byte) ∙ get_or-map-range_with_len (λ b. unwrap_or (code_of b) OFF) 0 128 byte byte OFF below
+          (omega arith)
       | inr above ↦ get_or_past CODES byte OFF above ∙ sym (ap (λ o. unwrap_or o OFF) (code_of-not_ascii byte above))
     ]
 

@@ -1,14 +1,17 @@
 -- What `clap` makes of words that don't begin with `-`, for a command that takes no value and for one that takes one.
-use Rattle.std.proofs.Common.{◌≡◌, ◌≢◌, ◌||◌, ◌&&◌, ℕ, Bool, true, false, List, [], ◌∷◌, Option, Some, None, MatchOption, is_some, if◌then◌else◌, refl, sym, subst, ap, ap₂, ◌∙◌}
+use Rattle.std.proofs.Common.{◌≡◌, ◌≢◌, ◌||◌, ◌&&◌, ℕ, Bool, true, false, List, [], ◌∷◌, Option, Some, None, MatchOption, is_some, if◌then◌else◌, refl, sym}
+use Rattle.std.proofs.Common.{subst, ap, ap₂, ◌∙◌}
 use Rattle.std.specs.Str.{bytes_eq}
 use Rattle.std.specs.Option.{option_map_or}
 use Rattle.std.proofs.lemmas.Slice.Eq.{bytes_eq-Decides}
 use Rattle.clap.specs.Lexer.{long_of, short_of}
 use Rattle.clap.specs.Matches.{first_value, found_of}
-use Rattle.clap.specs.Walk.{Held, Rule, Step, Text, Walk, after_step, arg_by_index, finished, first_of, idle, long_or_other, nothing_held, settled, short_or_plain, to_positional, trailing, value, walk, walk_from, walked, word_met}
+use Rattle.clap.specs.Walk.{Held, Rule, Step, Text, Walk, after_step, arg_by_index, finished, first_of, idle, long_or_other, nothing_held, settled}
+use Rattle.clap.specs.Walk.{short_or_plain, to_positional, trailing, value, walk, walk_from, walked, word_met}
 use Rattle.clap.specs.Simple.{App, Shape, built, entered, is_simple, matches_of, names_of}
 use Rattle.clap.specs.Kinds.{Kinds, or_else}
-use Rattle.clap.specs.Faults.{bundle_fault, check_fault, defaults_fault, entered_fault, fault_of, flag_word_fault, is_free_app, is_simple_and_free, other_fault, settle_fault, step_fault, turn_fault, walk_fault}
+use Rattle.clap.specs.Faults.{bundle_fault, check_fault, defaults_fault, entered_fault, fault_of, flag_word_fault, is_free_app, is_simple_and_free, other_fault}
+use Rattle.clap.specs.Faults.{settle_fault, step_fault, turn_fault, walk_fault}
 use Rattle.clap.specs.declared.error.kind.ErrorKind.{ErrorKind}
 use Rattle.clap.specs.declared.error.kind.ErrorKind.TheVariants.{UnknownArgument, MissingRequiredArgument}
 use Rattle.clap.specs.declared.parser.matches.ArgMatches.{ArgMatches}
@@ -101,7 +104,8 @@ outcome a of_walk w =
     (check_fault a.top (finished a.top.rules w.held) (is_some (entered a w.stopped))))))
 
 pub by_outcome : (a : App) (words : List Text) → a.top.no_binary_name ≡ true
-    → fault_of a words ≡ outcome (built a) (walk_fault (built a).top (names_of (built a)) (walk_from nothing_held) words) (walk (built a).top.rules (names_of (built a)) nothing_held words)
+    → fault_of a words ≡ outcome (built a) (walk_fault (built a).top (names_of (built a)) (walk_from nothing_held) words)
+    (walk (built a).top.rules (names_of (built a)) nothing_held words)
 unfolding outcome
 by_outcome a words named = rw named refl
 
@@ -129,7 +133,8 @@ bare_parses name (word ∷ rest) None h fault = refl
 bare_parses name [] (Some m) h found = refl
 bare_parses name (word ∷ rest) (Some m) h found = absurd (bare_some name word rest h found.0)
 
-pub no_value : (app : App) (name : Text) (words : List Text) (r : Option ArgMatches) → app ≡ bare name → any_hyphen words ≡ false → Parses app words r → is_some r ≡ is_empty words
+pub no_value : (app : App) (name : Text) (words : List Text) (r : Option ArgMatches) → app ≡ bare name → any_hyphen words ≡ false → Parses app words r
+    → is_some r ≡ is_empty words
 no_value app name words r e h found = bare_parses name words r h (subst (λ a. Parses a words r) e found)
 
 -- a command that takes one value: where the walk is after the first word
@@ -183,6 +188,7 @@ one_parses name id (word ∷ []) (Some m) h found =
     first_value-rows (found_of m) id ∙ ap (first_of id) found.1 ∙ one_row name id word (first_plain word [] h)
 one_parses name id (word ∷ more ∷ rest) (Some m) h found = absurd (one_more name id word more rest h found.0)
 
-pub one_value : (app : App) (name id : Text) (words : List Text) (r : Option ArgMatches) → app ≡ with_one name id → any_hyphen words ≡ false → Parses app words r
+pub one_value : (app : App) (name id : Text) (words : List Text) (r : Option ArgMatches) → app ≡ with_one name id → any_hyphen words ≡ false
+    → Parses app words r
     → MatchOption r (only words ≡ None) (λ m. first_value (found_of m) id ≡ only words)
 one_value app name id words r e h found = one_parses name id words r h (subst (λ a. Parses a words r) e found)

@@ -33,7 +33,8 @@ pub reaches : (W : List Entry → World) (note : List Entry → ℕ → Note) (P
 reaches W note P [] = reach-nil W P
 reaches W note P (c ∷ cs) = go (any_live (W (journal_of P)).there (journal_of P)) refl (reaches W note (step_after W note (journal_of P) c ∷ P) cs)
   where
-    go : (b : Bool) → any_live (W (journal_of P)).there (journal_of P) ≡ b → Reaches W (step_after W note (journal_of P) c ∷ P) cs (course W note (step_after W note (journal_of P) c ∷ P) cs)
+    go : (b : Bool) → any_live (W (journal_of P)).there (journal_of P) ≡ b
+        → Reaches W (step_after W note (journal_of P) c ∷ P) cs (course W note (step_after W note (journal_of P) c ∷ P) cs)
         → Reaches W P (c ∷ cs) (cond b (course W note (step_after W note (journal_of P) c ∷ P) cs) P)
     go true e r = record {
       more = r.more ++ (step_after W note (journal_of P) c ∷ []);
@@ -47,21 +48,33 @@ reaches W note P (c ∷ cs) = go (any_live (W (journal_of P)).there (journal_of 
     }
     go false e r = record { more = []; goes_on = refl; left = c ∷ cs; in_order = refl; lived = λ l. l; at_end = inr e }
 
-pub course-answered : (W : List Entry → World) (admits : List Entry → ℕ → Note → Type 0) (note : List Entry → ℕ → Note) (P : List Step) (left : List Call) → EachMeets W admits P → EachNoted (is_note note) P → EachLive W P → course W note [] (answered P ++ left) ≡ course W note P left
+pub course-answered : (W : List Entry → World) (admits : List Entry → ℕ → Note → Type 0) (note : List Entry → ℕ → Note) (P : List Step) (left : List Call)
+    → EachMeets W admits P → EachNoted (is_note note) P → EachLive W P → course W note [] (answered P ++ left) ≡ course W note P left
 course-answered W admits note [] left m is l = refl
-course-answered W admits note (s ∷ P) left m is l = rw (append_assoc, course-answered W admits note P (call_of s ∷ left) m.0 is.0 l.0, l.1, ← determined (W (journal_of P)) (admits (journal_of P)) (note (journal_of P)) (journal_of P) s m.1 is.1)
+course-answered W admits note (s ∷ P) left m is l =
+    rw (
+      append_assoc,
+      course-answered W admits note P (call_of s ∷ left) m.0 is.0 l.0,
+      l.1,
+      ← determined (W (journal_of P)) (admits (journal_of P))
+          (note (journal_of P)) (journal_of P) s m.1 is.1,
+    )
 
-course-done : (W : List Entry → World) (note : List Entry → ℕ → Note) (P : List Step) (left : List Call) → (left ≡ []) ⊎ (any_live (W (journal_of P)).there (journal_of P) ≡ false) → course W note P left ≡ P
+course-done : (W : List Entry → World) (note : List Entry → ℕ → Note) (P : List Step) (left : List Call)
+    → (left ≡ []) ⊎ (any_live (W (journal_of P)).there (journal_of P) ≡ false) → course W note P left ≡ P
 course-done W note P [] done = refl
 course-done W note P (c ∷ left) (inl e) = cc
 course-done W note P (c ∷ left) (inr dead) = rw dead
 
 -- a legal and whole journal with these notes has the steps of the course
-pub course-whole : (W : List Entry → World) (admits : List Entry → ℕ → Note → Type 0) (note : List Entry → ℕ → Note) (calls : List Call) (J : List Entry) → IsLegal W admits J → EachNoted (is_note note) (steps J) → IsWhole W calls J → steps J ≡ course W note [] calls
+pub course-whole : (W : List Entry → World) (admits : List Entry → ℕ → Note → Type 0) (note : List Entry → ℕ → Note) (calls : List Call) (J : List Entry)
+    → IsLegal W admits J → EachNoted (is_note note) (steps J) → IsWhole W calls J → steps J ≡ course W note [] calls
 course-whole W admits note calls J l is w =
-    let e : course W note [] (answered (steps J) ++ w.left) ≡ course W note (steps J) w.left = course-answered W admits note (steps J) w.left l.each is w.follows.lived in
+    let e : course W note [] (answered (steps J) ++ w.left) ≡ course W note (steps J) w.left =
+    course-answered W admits note (steps J) w.left l.each is w.follows.lived in
     let d : course W note (steps J) w.left ≡ steps J = course-done W note (steps J) w.left (rw l.in_form w.at_end) in
     sym (ap (λ (cs : List Call). course W note [] cs) (sym w.follows.in_order) ∙ (e ∙ d))
 
-pub course_lem : (W : List Entry → World) (note : List Entry → ℕ → Note) (calls : List Call) (J : List Entry) → IsLegal W (is_note note) J → IsWhole W calls J → steps J ≡ course W note [] calls
+pub course_lem : (W : List Entry → World) (note : List Entry → ℕ → Note) (calls : List Call) (J : List Entry) → IsLegal W (is_note note) J → IsWhole W calls J
+    → steps J ≡ course W note [] calls
 course_lem W note calls J l w = course-whole W (is_note note) note calls J l (legal-noted W (is_note note) J l) w

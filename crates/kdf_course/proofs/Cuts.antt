@@ -1,5 +1,6 @@
 -- A journal that is cut is one under the schedule that is cut, whatever is admitted.
-use Rattle.std.proofs.Common.{◌≡◌, ℕ, ◌-◌, ◌≤◌, ◌<◌, List, [], ◌∷◌, ◌++◌, false, ◌⊎◌, inl, inr, refl, sym, ◌∙◌, ap, subst, arith, append_assoc, take, drop, length, ⊎_elim}
+use Rattle.std.proofs.Common.{◌≡◌, ℕ, ◌-◌, ◌≤◌, ◌<◌, List, [], ◌∷◌, ◌++◌, false, ◌⊎◌, inl, inr, refl, sym, ◌∙◌, ap, subst, arith, append_assoc, take, drop}
+use Rattle.std.proofs.Common.{length, ⊎_elim}
 use Rattle.std.proofs.lemmas.Bool.{cases_lt}
 use Rattle.std.proofs.lemmas.List.{append-nil, length-drop, take-append-drop}
 use Rattle.kdf_journal.specs.declared.entry.Entry.{Entry}
@@ -64,7 +65,8 @@ pub noted-cut : (admits : List Entry → ℕ → Note → Type 0) (n : ℕ) (J :
 noted-cut admits n J e = subst (EachNoted admits) (sym (steps-journal_of (oldest n (steps J)))) (oldest-noted n (steps J) admits e)
 
 -- the calls that are left of the first ones, where all of the steps answer no more
-left_of : (xs : List Call) (left first rest : List Call) → xs ++ left ≡ first ++ rest → length xs ≤ length first → (more : List Call) × ((xs ++ more ≡ first) × (left ≡ more ++ rest))
+left_of : (xs : List Call) (left first rest : List Call) → xs ++ left ≡ first ++ rest → length xs ≤ length first
+    → (more : List Call) × ((xs ++ more ≡ first) × (left ≡ more ++ rest))
 left_of [] left first rest e le = (first, (refl, e))
 left_of (x ∷ xs) left [] rest e le = absurd (omega (arith, le))
 left_of (x ∷ xs) left (y ∷ first) rest e le =
@@ -95,7 +97,8 @@ module _ (W : List Entry → World) (first rest : List Call) (J : List Entry) (f
         at_end = by_end r.0 r.1.1 w.at_end;
       }
     where
-      by_end : (more : List Call) → w.left ≡ more ++ rest → (w.left ≡ []) ⊎ (any_live (W J).there J ≡ false) → (more ≡ []) ⊎ (any_live (W (journal_of P)).there (journal_of P) ≡ false)
+      by_end : (more : List Call) → w.left ≡ more ++ rest → (w.left ≡ []) ⊎ (any_live (W J).there J ≡ false)
+          → (more ≡ []) ⊎ (any_live (W (journal_of P)).there (journal_of P) ≡ false)
       by_end more e (inl none) = inl (none_before more rest (sym e ∙ none))
       by_end more e (inr dead) =
           let same : journal_of P ≡ J = ap journal_of (oldest-all (length first) (steps J) le) ∙ form in
@@ -106,10 +109,15 @@ module _ (W : List Entry → World) (first rest : List Call) (J : List Entry) (f
   first_kept lt =
       let a = oldest-answered (length first) (steps J) in
       let n : length (answered P) ≡ length first = omega (arith, lt, length-answered P, count (length first) (steps J)) in
-      let e : answered P ++ (a.0 ++ w.left) ≡ first ++ rest = sym (append_assoc (answered P) a.0 w.left) ∙ ap (λ (cs : List Call). cs ++ w.left) (sym a.1) ∙ w.follows.in_order in
+      let e : answered P ++ (a.0 ++ w.left) ≡ first ++ rest = sym (append_assoc (answered P) a.0 w.left) ∙ ap (λ (cs : List Call). cs ++ w.left) (sym a.1)
+      ∙ w.follows.in_order in
       record {
         left = [];
-        follows = record { in_order = append-nil (answered (steps (journal_of P))) ∙ ap answered (steps-journal_of P) ∙ (fronts_same (answered P) first (a.0 ++ w.left) rest n e).0; lived = lived };
+        follows = record {
+          in_order = append-nil (answered (steps (journal_of P))) ∙ ap answered (steps-journal_of P)
+              ∙ (fronts_same (answered P) first (a.0 ++ w.left) rest n e).0;
+          lived = lived;
+        };
         at_end = inl refl;
       }
 
@@ -120,7 +128,8 @@ module _ (W : List Entry → World) (first rest : List Call) (J : List Entry) (f
       (λ (le : length (steps J) ≤ length first). all_kept le)
       (cases_lt (length first) (length (steps J)))
 
-pub journal-cut : (W : List Entry → World) (admits : List Entry → ℕ → Note → Type 0) (events earlier : List Event) (later : List Call) (J : List Entry) → IsJournal W admits events J → calls_made events ≡ calls_made earlier ++ later → IsJournal W admits earlier (cut (length (calls_made earlier)) J)
+pub journal-cut : (W : List Entry → World) (admits : List Entry → ℕ → Note → Type 0) (events earlier : List Event) (later : List Call) (J : List Entry)
+    → IsJournal W admits events J → calls_made events ≡ calls_made earlier ++ later → IsJournal W admits earlier (cut (length (calls_made earlier)) J)
 journal-cut W admits events earlier later J j is = record {
   legal = legal-cut W admits (length (calls_made earlier)) J j.legal;
   whole = whole-cut W (calls_made earlier) later J j.legal.in_form (subst (λ (cs : List Call). IsWhole W cs J) is j.whole);

@@ -67,23 +67,33 @@ same_time t w note None = refl
 same_time t w note (Some p) = same_time-turn t note p (w.held p)
 
 -- and so do the calls after it
-pub rises-on : (w : World) (note : ℕ → Note) (J : List Entry) (t : ℕ) (c : Call) (cs : List Call) → CallsRise t (c ∷ cs) → CallsRise (clock_by t (step_at w note J c)) cs
+pub rises-on : (w : World) (note : ℕ → Note) (J : List Entry) (t : ℕ) (c : Call) (cs : List Call) → CallsRise t (c ∷ cs)
+    → CallsRise (clock_by t (step_at w note J c)) cs
 rises-on w note J t AnOrder cs rises = subst (λ (u : ℕ). CallsRise u cs) (sym (same_time t w note (next w J))) rises
 rises-on w note J t (AMove d n) cs rises = rises
 rises-on w note J t (AnEnd d) cs rises = rises
 rises-on w note J t (AClock u) cs rises = rises.1
 rises-on w note J t (ASwap p q) cs rises = rises.2
 
-module _ (W : List Entry → World) (admits : List Entry → ℕ → Note → Type 0) (note : List Entry → ℕ → Note) (some : (J : List Entry) (p : ℕ) → admits J p (note J p)) where
+module _ (W : List Entry → World) (admits : List Entry → ℕ → Note → Type 0) (note : List Entry → ℕ → Note) (some : (J : List Entry) (p : ℕ)
+    → admits J p (note J p)) where
   -- each step of the course meets the rules
   course-meets : (P : List Step) (cs : List Call) → CallsRise (clock (journal_of P)) cs → EachMeets W admits P → EachMeets W admits (course W note P cs)
   course-meets P [] rises m = m
   course-meets P (c ∷ cs) rises m =
       let s : Step = step_after W note (journal_of P) c in
-      let on : CallsRise (clock (journal_of (s ∷ P))) cs = subst (λ (u : ℕ). CallsRise u cs) (sym (clock-added (journal_of P) s)) (rises-on (W (journal_of P)) (note (journal_of P)) (journal_of P) (clock (journal_of P)) c cs rises) in
-      go (any_live (W (journal_of P)).there (journal_of P)) refl (λ live. course-meets (s ∷ P) cs on (m, meets-step (W (journal_of P)) (admits (journal_of P)) (note (journal_of P)) (some (journal_of P)) (journal_of P) c cs live rises))
+      let on : CallsRise (clock (journal_of (s ∷ P))) cs = subst (λ (u : ℕ). CallsRise u cs) (sym (clock-added (journal_of P) s))
+      (rises-on (W (journal_of P)) (note (journal_of P)) (journal_of P) (clock (journal_of P)) c cs rises) in
+      go (any_live (W (journal_of P)).there (journal_of P)) refl
+      (λ live. course-meets (s ∷ P) cs on (
+        m,
+        meets-step (W (journal_of P)) (admits (journal_of P)) (note (journal_of P)) (some (journal_of P))
+            (journal_of P) c cs live rises,
+      ))
     where
-      go : (b : Bool) → any_live (W (journal_of P)).there (journal_of P) ≡ b → (any_live (W (journal_of P)).there (journal_of P) ≡ true → EachMeets W admits (course W note (step_after W note (journal_of P) c ∷ P) cs)) → EachMeets W admits (cond b (course W note (step_after W note (journal_of P) c ∷ P) cs) P)
+      go : (b : Bool) → any_live (W (journal_of P)).there (journal_of P) ≡ b
+          → (any_live (W (journal_of P)).there (journal_of P) ≡ true → EachMeets W admits (course W note (step_after W note (journal_of P) c ∷ P) cs))
+          → EachMeets W admits (cond b (course W note (step_after W note (journal_of P) c ∷ P) cs) P)
       go true e rest = rest e
       go false e rest = m
 
@@ -94,6 +104,7 @@ module _ (W : List Entry → World) (admits : List Entry → ℕ → Note → Ty
         journal_of P,
         record {
           legal = legal-journal_of W admits P (course-meets [] (calls_made events) (calls-rise 0 events rises) tt);
-          whole = reach-whole W (calls_made events) (journal_of P) (ap journal_of (steps-journal_of P)) (subst (Reaches W [] (calls_made events)) (sym (steps-journal_of P)) r);
+          whole = reach-whole W (calls_made events) (journal_of P) (ap journal_of (steps-journal_of P))
+              (subst (Reaches W [] (calls_made events)) (sym (steps-journal_of P)) r);
         },
       )

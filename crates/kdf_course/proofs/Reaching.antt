@@ -17,7 +17,8 @@ pub reach-nil : (W : List Entry → World) (P : List Step) → Reaches W P [] P
 reach-nil W P = record { more = []; goes_on = refl; left = []; in_order = refl; lived = λ l. l; at_end = inl refl }
 
 -- where a program is live, a step that answers a call
-pub reach-step : (W : List Entry → World) (P : List Step) (c : Call) (s : Step) → any_live (W (journal_of P)).there (journal_of P) ≡ true → call_of s ≡ c → Reaches W P (c ∷ []) (s ∷ P)
+pub reach-step : (W : List Entry → World) (P : List Step) (c : Call) (s : Step) → any_live (W (journal_of P)).there (journal_of P) ≡ true → call_of s ≡ c
+    → Reaches W P (c ∷ []) (s ∷ P)
 reach-step W P c s live is = record {
   more = s ∷ [];
   goes_on = refl;
@@ -27,14 +28,17 @@ reach-step W P c s live is = record {
   at_end = inl refl;
 }
 
-none_left : (W : List Entry → World) (P Q : List Step) (cs : List Call) (r : Reaches W P cs Q) → any_live (W (journal_of Q)).there (journal_of Q) ≡ true → r.left ≡ []
+none_left : (W : List Entry → World) (P Q : List Step) (cs : List Call) (r : Reaches W P cs Q) → any_live (W (journal_of Q)).there (journal_of Q) ≡ true
+    → r.left ≡ []
 none_left W P Q cs r live =
     ⊎_elim (λ (none : r.left ≡ []). none) (λ (dead : any_live (W (journal_of Q)).there (journal_of Q) ≡ false). absurd (true≢false (sym live ∙ dead))) r.at_end
 
 -- while a program is live, calls go on
-pub reach-append : (W : List Entry → World) (P Q R : List Step) (cs ds : List Call) → Reaches W P cs Q → any_live (W (journal_of Q)).there (journal_of Q) ≡ true → Reaches W Q ds R → Reaches W P (cs ++ ds) R
+pub reach-append : (W : List Entry → World) (P Q R : List Step) (cs ds : List Call) → Reaches W P cs Q
+    → any_live (W (journal_of Q)).there (journal_of Q) ≡ true → Reaches W Q ds R → Reaches W P (cs ++ ds) R
 reach-append W P Q R cs ds r live t =
-    let all : answered r.more ≡ cs = sym (append-nil (answered r.more)) ∙ ap (λ (xs : List Call). answered r.more ++ xs) (sym (none_left W P Q cs r live)) ∙ r.in_order in
+    let all : answered r.more ≡ cs = sym (append-nil (answered r.more)) ∙ ap (λ (xs : List Call). answered r.more ++ xs) (sym (none_left W P Q cs r live))
+    ∙ r.in_order in
     record {
       more = t.more ++ r.more;
       goes_on = t.goes_on ∙ ap (λ (S : List Step). t.more ++ S) r.goes_on ∙ sym (append_assoc t.more r.more P);
@@ -48,7 +52,8 @@ reach-append W P Q R cs ds r live t =
     }
 
 -- and where none is, further calls make no step
-pub reach-dead : (W : List Entry → World) (P Q : List Step) (cs ds : List Call) → Reaches W P cs Q → any_live (W (journal_of Q)).there (journal_of Q) ≡ false → Reaches W P (cs ++ ds) Q
+pub reach-dead : (W : List Entry → World) (P Q : List Step) (cs ds : List Call) → Reaches W P cs Q → any_live (W (journal_of Q)).there (journal_of Q) ≡ false
+    → Reaches W P (cs ++ ds) Q
 reach-dead W P Q cs ds r dead = record {
   more = r.more;
   goes_on = r.goes_on;
@@ -59,10 +64,13 @@ reach-dead W P Q cs ds r dead = record {
 }
 
 -- one call more
-pub reach-added : (W : List Entry → World) (P : List Step) (J K : List Entry) (cs : List Call) (c : Call) (s : Step) → journal_of (steps J) ≡ J → Reaches W P cs (steps J) → any_live (W J).there J ≡ true → call_of s ≡ c → K ≡ added J s → Reaches W P (cs ++ c ∷ []) (steps K)
+pub reach-added : (W : List Entry → World) (P : List Step) (J K : List Entry) (cs : List Call) (c : Call) (s : Step) → journal_of (steps J) ≡ J
+    → Reaches W P cs (steps J) → any_live (W J).there J ≡ true → call_of s ≡ c → K ≡ added J s → Reaches W P (cs ++ c ∷ []) (steps K)
 reach-added W P J K cs c s form r live is k =
-    let there : any_live (W (journal_of (steps J))).there (journal_of (steps J)) ≡ true = subst (λ (L : List Entry). any_live (W L).there L ≡ true) (sym form) live in
-    subst (Reaches W P (cs ++ c ∷ [])) (sym (ap steps k ∙ steps-added J s)) (reach-append W P (steps J) (s ∷ steps J) cs (c ∷ []) r there (reach-step W (steps J) c s there is))
+    let there : any_live (W (journal_of (steps J))).there (journal_of (steps J)) ≡ true = subst (λ (L : List Entry). any_live (W L).there L ≡ true)
+    (sym form) live in
+    subst (Reaches W P (cs ++ c ∷ [])) (sym (ap steps k ∙ steps-added J s))
+    (reach-append W P (steps J) (s ∷ steps J) cs (c ∷ []) r there (reach-step W (steps J) c s there is))
 
 -- a journal that the calls reach from the start is whole
 pub reach-whole : (W : List Entry → World) (cs : List Call) (J : List Entry) → journal_of (steps J) ≡ J → Reaches W [] cs (steps J) → IsWhole W cs J
@@ -88,12 +96,14 @@ live-before W s [] P l = l.1
 live-before W s (t ∷ Q) P l = live-before W t Q P l.0
 
 -- where no program is live, no step is made
-stays : (W : List Entry → World) (P Q : List Step) (more : List Step) → Q ≡ more ++ P → EachLive W Q → any_live (W (journal_of P)).there (journal_of P) ≡ false → Q ≡ P
+stays : (W : List Entry → World) (P Q : List Step) (more : List Step) → Q ≡ more ++ P → EachLive W Q → any_live (W (journal_of P)).there (journal_of P) ≡ false
+    → Q ≡ P
 stays W P Q [] e l dead = e
 stays W P Q (s ∷ more) e l dead = absurd (true≢false (sym (live-before W s more P (subst (EachLive W) e l)) ∙ dead))
 
 -- calls that follow those of a whole journal make it one of them all
-pub whole-on : (W : List Entry → World) (cs ds : List Call) (J K : List Entry) → journal_of (steps J) ≡ J → journal_of (steps K) ≡ K → IsWhole W cs J → Reaches W (steps J) ds (steps K) → IsWhole W (cs ++ ds) K
+pub whole-on : (W : List Entry → World) (cs ds : List Call) (J K : List Entry) → journal_of (steps J) ≡ J → journal_of (steps K) ≡ K → IsWhole W cs J
+    → Reaches W (steps J) ds (steps K) → IsWhole W (cs ++ ds) K
 whole-on W cs ds J K form own w r = reach-whole W (cs ++ ds) K own (go (any_live (W (journal_of (steps J))).there (journal_of (steps J))) refl)
   where
     go : (b : Bool) → any_live (W (journal_of (steps J))).there (journal_of (steps J)) ≡ b → Reaches W [] (cs ++ ds) (steps K)

@@ -38,7 +38,8 @@ spelling-first (a ∷ rest) o h begins =
     ap (λ k. decoded (take k (a ∷ rest))) size ∙ ap decoded begins ∙ decoded-spelling o h
 
 -- both ways
-pub first-exactly : (bytes : List ℕ) (o : Order) → length bytes ≡ 3 → AreBytes bytes → (first_decoded bytes ≡ Some o → IsOrder o × BeginsWith bytes (spelling o)) × (IsOrder o × BeginsWith bytes (spelling o) → first_decoded bytes ≡ Some o)
+pub first-exactly : (bytes : List ℕ) (o : Order) → length bytes ≡ 3 → AreBytes bytes
+    → (first_decoded bytes ≡ Some o → IsOrder o × BeginsWith bytes (spelling o)) × (IsOrder o × BeginsWith bytes (spelling o) → first_decoded bytes ≡ Some o)
 first-exactly bytes o three h = (first-spelt bytes o three h, λ begins. spelling-first bytes o begins.0 begins.1)
 
 -- what is an answer, from what it is as an option
@@ -47,14 +48,16 @@ ok-some (Ok x) o e = cc
 ok-some (Err x) o e = cc
 
 -- an answer that is what the syllables begin with is an order exactly where its spelling begins them
-pub ok-exactly : (r : Result Order BadCode) (bytes : List ℕ) → length bytes ≡ 3 → AreBytes bytes → result_ok r ≡ first_decoded bytes → (o : Order) → (r ≡ Ok o → IsOrder o × BeginsWith bytes (spelling o)) × (IsOrder o × BeginsWith bytes (spelling o) → r ≡ Ok o)
+pub ok-exactly : (r : Result Order BadCode) (bytes : List ℕ) → length bytes ≡ 3 → AreBytes bytes → result_ok r ≡ first_decoded bytes → (o : Order)
+    → (r ≡ Ok o → IsOrder o × BeginsWith bytes (spelling o)) × (IsOrder o × BeginsWith bytes (spelling o) → r ≡ Ok o)
 ok-exactly r bytes three h e o = (
   λ is. first-spelt bytes o three h (sym e ∙ ap result_ok is),
   λ begins. ok-some r o (e ∙ spelling-first bytes o begins.0 begins.1),
 )
 
 -- and bad where no spelling begins them
-pub bad-exactly : (r : Result Order BadCode) (bytes : List ℕ) → result_ok r ≡ first_decoded bytes → OnErr r ((o : Order) → IsOrder o → BeginsWith bytes (spelling o) → ⊥)
+pub bad-exactly : (r : Result Order BadCode) (bytes : List ℕ) → result_ok r ≡ first_decoded bytes
+    → OnErr r ((o : Order) → IsOrder o → BeginsWith bytes (spelling o) → ⊥)
 bad-exactly (Ok x) bytes e = tt
 bad-exactly (Err x) bytes e = λ o h begins. let some = spelling-first bytes o h begins in cc
 

@@ -1,5 +1,6 @@
 -- Each legal order is decoded from its spelling.
-use Rattle.std.proofs.Common.{◌≡◌, ℕ, ◌+◌, ◌*◌, ◌/◌, ◌%◌, ◌^◌, ◌<◌, ◌≤◌, true, false, not, eqb, ltb, leb, ◌&&◌, ◌||◌, Option, Some, None, is_some, List, get_or, refl, ap, ⊎_elim, arith}
+use Rattle.std.proofs.Common.{◌≡◌, ℕ, ◌+◌, ◌*◌, ◌/◌, ◌%◌, ◌^◌, ◌<◌, ◌≤◌, true, false, not, eqb, ltb, leb, ◌&&◌, ◌||◌, Option, Some, None, is_some, List, get_or}
+use Rattle.std.proofs.Common.{refl, ap, ⊎_elim, arith}
 use Rattle.std.specs.Int.{IsInRange, is_in_range, from_bool}
 use Rattle.std.proofs.lemmas.Bool.{lt-ltb, le-leb, ne_eqb, and_from, not_from_false, cases_lt}
 use Rattle.std.proofs.lemmas.Bool.Decides.{nat_tests}

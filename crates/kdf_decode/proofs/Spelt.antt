@@ -1,5 +1,6 @@
 -- An order that syllables spell is legal and has these syllables.
-use Rattle.std.proofs.Common.{◌≡◌, ℕ, ◌+◌, ◌*◌, ◌-◌, ◌/◌, ◌%◌, ◌^◌, ◌<◌, ◌≤◌, ◌≢◌, Bool, true, false, cond, not, eqb, ltb, leb, ◌&&◌, ◌||◌, ◌⊎◌, Option, Some, List, [], ◌∷◌, refl, ap, subst, ⊎_elim, arith}
+use Rattle.std.proofs.Common.{◌≡◌, ℕ, ◌+◌, ◌*◌, ◌-◌, ◌/◌, ◌%◌, ◌^◌, ◌<◌, ◌≤◌, ◌≢◌, Bool, true, false, cond, not, eqb, ltb, leb, ◌&&◌, ◌||◌, ◌⊎◌, Option, Some}
+use Rattle.std.proofs.Common.{List, [], ◌∷◌, refl, ap, subst, ⊎_elim, arith}
 use Rattle.std.specs.Int.{IsInRange, is_in_range, from_bool}
 use Rattle.std.specs.List.{All}
 use Rattle.std.proofs.lemmas.Bool.{ltb-true, ltb-false, leb-true, eqb-true, and_parts, cases_Bool}
@@ -25,7 +26,8 @@ given : (x o : Order) (P : Order → Type 0) → P x → Some x ≡ Some o → P
 given x o P h e = let same : x ≡ o = cc in subst P same h
 
 -- an order from one of two rows
-either : (test : Bool) (x y : Option Order) (o : Order) (P : Order → Type 0) → (test ≡ true → x ≡ Some o → P o) → (test ≡ false → y ≡ Some o → P o) → cond test x y ≡ Some o → P o
+either : (test : Bool) (x y : Option Order) (o : Order) (P : Order → Type 0) → (test ≡ true → x ≡ Some o → P o) → (test ≡ false → y ≡ Some o → P o)
+    → cond test x y ≡ Some o → P o
 either true x y o P f g e = f refl e
 either false x y o P f g e = g refl e
 
@@ -107,7 +109,8 @@ query-spelt a b is h =
     ((leb-true (b % 16) 5 parts.1, half-below b h), cc)
 
 -- three syllables
-jump-spelt : (a b d : ℕ) → is_in_range 0x80 0xb1 a ≡ true → ltb ((2 ^ 8 * b + d) / 8192) 6 ≡ true → d < 2 ^ 8 → Spells (a ∷ b ∷ d ∷ []) (Jump (a - 0x80) (2 ^ 8 * b + d))
+jump-spelt : (a b d : ℕ) → is_in_range 0x80 0xb1 a ≡ true → ltb ((2 ^ 8 * b + d) / 8192) 6 ≡ true → d < 2 ^ 8
+    → Spells (a ∷ b ∷ d ∷ []) (Jump (a - 0x80) (2 ^ 8 * b + d))
 unfolding spelling
 jump-spelt a b d is near h =
     let code = range 0x80 0xb1 a is in
@@ -135,7 +138,8 @@ three n a b d e hb hd =
 bit : (n : ℕ) → n < 2 → from_bool (eqb n 1) ≡ n
 bit n h = grind (arith, nat_tests)
 
-direct-whole : (n : ℕ) → 0xc00000 ≤ n → n < 0xe00000 → 0xc00000 + n / 2 ^ 20 % 2 * 2 ^ 20 + n / 2 ^ 19 % 2 * 2 ^ 19 + n / 2 ^ 15 % 2 ^ 4 * 2 ^ 15 + n % 2 ^ 15 ≡ n
+direct-whole : (n : ℕ) → 0xc00000 ≤ n → n < 0xe00000 → 0xc00000 + n / 2 ^ 20 % 2 * 2 ^ 20 + n / 2 ^ 19 % 2 * 2 ^ 19 + n / 2 ^ 15 % 2 ^ 4 * 2 ^ 15 + n % 2 ^ 15
+    ≡ n
 direct-whole n low high = omega arith
 
 direct-spelling : (n : ℕ) → 0xc00000 ≤ n → n < 0xe00000 → spelling (direct n) ≡ three_bytes n

@@ -47,7 +47,8 @@ due_by answers given c bytes after kept called done wrote write = (given, called
 module _ (answers : ℕ → ℕ → Type 0) (one : (n a b : ℕ) → n < 2 ^ 48 → answers n a → answers n b → a ≡ b) where
   pub one_due : (c : Option Command) (bytes d e : List ℕ) → IsDueBy answers c bytes d → IsDueBy answers c bytes e → d ≡ e
   one_due None bytes d e p q =
-      one_due_at answers one status.Usage None bytes d e (subst (λ s. IsDueAt answers s None bytes d) p.1 p.2) (subst (λ s. IsDueAt answers s None bytes e) q.1 q.2)
+      one_due_at answers one status.Usage None bytes d e (subst (λ s. IsDueAt answers s None bytes d) p.1 p.2)
+      (subst (λ s. IsDueAt answers s None bytes e) q.1 q.2)
   one_due (Some c) bytes d e p q =
       let same : q.0 ≡ p.0 = one_called answers one c (job_text c bytes) (called_by (Some c) bytes) q.0 p.0 q.1 p.1 in
       one_due_at answers one p.0 (Some c) (job_text c bytes) d e p.2 (subst (λ s. IsDueAt answers s (Some c) (job_text c bytes) e) same q.2)

@@ -1,5 +1,6 @@
 -- A text that is due is handed out whole, or its size is told.
-use Rattle.std.proofs.Common.{◌≡◌, ◌≢◌, ℕ, ◌<◌, ◌≤◌, ◌⊎◌, inl, inr, zero, suc, List, [], length, take, drop, true, Option, Some, refl, sym, ap, subst, ◌∙◌, arith}
+use Rattle.std.proofs.Common.{◌≡◌, ◌≢◌, ℕ, ◌<◌, ◌≤◌, ◌⊎◌, inl, inr, zero, suc, List, [], length, take, drop, true, Option, Some, refl, sym, ap, subst, ◌∙◌}
+use Rattle.std.proofs.Common.{arith}
 use Rattle.kdf_theory.specs.Shown.{Shown}
 use Rattle.kdf_top.specs.declared.status.Status.{Status}
 use Rattle.kdf_top.specs.declared.status.Status.TheVariants as status
@@ -49,7 +50,8 @@ module _ (words : List (List ℕ)) (job before after text : List ℕ) where
     due = λ h. (text, due, refl, λ k. absurd (k refl));
     done = λ e. absurd (cc);
     short = λ e. short;
-    room = λ d is fits e. let same_size : length d ≡ length text = ap length (one_due exchanged (λ n a b below p q. one_exchanged n a b p q) (command words) job d text is due) in
+    room = λ d is fits e. let same_size : length d ≡ length text =
+        ap length (one_due exchanged (λ n a b below p q. one_exchanged n a b p q) (command words) job d text is due) in
         omega (short, fits, same_size, arith);
     short_writes = λ e. same;
     memory = λ e. absurd (cc);
@@ -82,5 +84,6 @@ handed words job before after text called given size asked usage read write memo
     subst (IsAnswered words job before after given) (sym told) (elim (either (length text) (length before)) [
       | inl most ↦ subst (λ s. IsAnswered words job before after s (length text)) (sym (fits most))
           (handed_out words job before after text called asked usage read write memory due done (front most) beyond)
-      | inr less ↦ subst (λ s. IsAnswered words job before after s (length text)) (sym (short less)) (only_told words job before after text due less (same less))
+      | inr less ↦ subst (λ s. IsAnswered words job before after s (length text)) (sym (short less))
+          (only_told words job before after text due less (same less))
     ])

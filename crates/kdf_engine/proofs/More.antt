@@ -148,7 +148,8 @@ module _ (answers : ℕ → ℕ → Type 0) (part : (n a : ℕ) → answers n a 
       → left ≡ Some bytes
       → IfSome left (λ b. IsDoneBy answers c b kept before after) → IsDoneBy exchanged c bytes kept before after
   done_told c left bytes kept before after told is =
-      done_same answers exchanged part back c bytes kept before after (subst (λ (o : Option (List ℕ)). IfSome o (λ b. IsDoneBy answers c b kept before after)) told is)
+      done_same answers exchanged part back c bytes kept before after
+      (subst (λ (o : Option (List ℕ)). IfSome o (λ b. IsDoneBy answers c b kept before after)) told is)
 
   pub called_told : (c : Option Command) (left : Option (List ℕ)) (bytes : List ℕ) (given : Status) (read_failed write_failed : Type 0) → left ≡ Some bytes
       → IfSome left (λ b. Answers (IsCalledBy answers c b) given read_failed write_failed)

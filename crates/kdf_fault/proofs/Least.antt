@@ -1,5 +1,6 @@
 -- The least of some faults is found piece by piece, in any order.
-use Rattle.std.proofs.Common.{Bool, ◌≡◌, ℕ, true, false, cond, eqb, ltb, ◌&&◌, ◌||◌, List, [], ◌∷◌, ◌++◌, Option, Some, None, refl, sym, ap, ◌∙◌, arith, inl, inr}
+use Rattle.std.proofs.Common.{Bool, ◌≡◌, ℕ, true, false, cond, eqb, ltb, ◌&&◌, ◌||◌, List, [], ◌∷◌, ◌++◌, Option, Some, None, refl, sym, ap, ◌∙◌, arith, inl}
+use Rattle.std.proofs.Common.{inr}
 use Rattle.std.proofs.lemmas.Bool.Decides.{nat_tests}
 use Rattle.kdf_fault.specs.declared.found.Found.{Found}
 use Rattle.kdf_fault.specs.Faults.{before, lesser, least, IsOneOf, NoneBefore, IsFirst}
@@ -68,7 +69,8 @@ lesser-comm number apart (Some x) (Some y) =
     let turned = before-turned number x y in
     elim (before number y x) as (λ b. before number y x ≡ b → cond b (Some y) (Some x) ≡ cond (before number x y) (Some x) (Some y)) [
       | true ↦ λ e. rw (before-turned number y x e) refl
-      | false ↦ λ e. elim (before number x y) as (λ b. before number x y ≡ b → Some x ≡ cond b (Some x) (Some y)) [ true ↦ λ t. refl | false ↦ λ t. ap (λ w. Some w) (same t e) ] refl
+      | false ↦ λ e. elim (before number x y) as (λ b. before number x y ≡ b → Some x ≡ cond b (Some x) (Some y))
+          [ true ↦ λ t. refl | false ↦ λ t. ap (λ w. Some w) (same t e) ] refl
     ] refl
 
 pub lesser-none : {F : Type 0} (number : F → ℕ) (a : Option (Found F)) → lesser number a None ≡ a
@@ -110,7 +112,8 @@ least-front number best here later =
     lesser-assoc number best (least number here) (least number later) ∙ ap (lesser number best) (sym (least-append number here later))
 
 -- What is found in the midst may be taken before all that stands in front of it.
-pub least-between : {F : Type 0} (number : F → ℕ) (apart : (x y : F) → number x ≡ number y → x ≡ y) (best : Option (Found F)) (front here later : List (Found F))
+pub least-between : {F : Type 0} (number : F → ℕ) (apart : (x y : F) → number x ≡ number y → x ≡ y) (best : Option (Found F))
+    (front here later : List (Found F))
     → lesser number (lesser number best (least number here)) (least number (front ++ later)) ≡ lesser number best (least number (front ++ (here ++ later)))
 least-between number apart best front here later =
     lesser-assoc number best (least number here) (least number (front ++ later))

@@ -1,5 +1,6 @@
 -- The codes of a text, read byte by byte.
-use Rattle.std.proofs.Common.{◌≡◌, ℕ, ◌+◌, ◌<◌, ◌≤◌, List, [], ◌∷◌, ◌++◌, length, drop, get_or, Option, Some, None, refl, sym, ap, ◌∙◌, drop-cons, add-one, append_assoc, append-nil}
+use Rattle.std.proofs.Common.{◌≡◌, ℕ, ◌+◌, ◌<◌, ◌≤◌, List, [], ◌∷◌, ◌++◌, length, drop, get_or, Option, Some, None, refl, sym, ap, ◌∙◌, drop-cons, add-one}
+use Rattle.std.proofs.Common.{append_assoc, append-nil}
 use Rattle.std.specs.Option.{option_map}
 use Rattle.std.proofs.Math.ListN.{drop_of_length-le}
 use Rattle.kdf_code.specs.Code.{code_of}
@@ -9,7 +10,8 @@ use Rattle.kdf_job.specs.Media.{codes_in, with_code}
 unfoldable pub behind : List ℕ → ℕ → List ℕ → Option (List ℕ)
 behind codes i text = option_map (λ more. codes ++ more) (codes_in (drop i text))
 
-one_more : (codes : List ℕ) (code : ℕ) (o : Option (List ℕ)) → option_map (λ more. codes ++ more) (with_code (Some code) o) ≡ option_map (λ more. (codes ++ code ∷ []) ++ more) o
+one_more : (codes : List ℕ) (code : ℕ) (o : Option (List ℕ)) → option_map (λ more. codes ++ more) (with_code (Some code) o) ≡ option_map
+    (λ more. (codes ++ code ∷ []) ++ more) o
 one_more codes code None = refl
 one_more codes code (Some more) = ap Some (sym (append_assoc codes (code ∷ []) more))
 

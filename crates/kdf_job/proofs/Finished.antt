@@ -26,7 +26,8 @@ abbrev made : List SlotJob → Draft → Job
 made slots d = record { slots = slots; events = d.events; pool = d.pool }
 
 -- its last slot is put after the others, and each slot has the pool
-pub well_formed : (words : ℕ) (numbers : List ℕ) (d : Draft) (slots : List SlotJob) (j : Job) → IsKept words numbers d → d.place ≡ BehindEnd → slots ≡ slots_told d
+pub well_formed : (words : ℕ) (numbers : List ℕ) (d : Draft) (slots : List SlotJob) (j : Job) → IsKept words numbers d → d.place ≡ BehindEnd
+    → slots ≡ slots_told d
     → j ≡ made (map (with_pool d.pool) slots) d → IsJob j
 well_formed words numbers d slots j was place told is =
     subst IsJob (sym (is ∙ ap (λ (ss : List SlotJob). made (map (with_pool d.pool) ss) d) told)) (finished words numbers d was place)

@@ -1,5 +1,6 @@
 -- The front of a job without a fault, and the first fault of a front.
-use Rattle.std.proofs.Common.{◌≡◌, ℕ, ◌+◌, Bool, true, false, cond, List, [], ◌∷◌, ◌++◌, length, take, min, Some, None, Result, Ok, Err, refl, sym, ap, subst, ◌∙◌, arith, append_assoc, append-nil}
+use Rattle.std.proofs.Common.{◌≡◌, ℕ, ◌+◌, Bool, true, false, cond, List, [], ◌∷◌, ◌++◌, length, take, min, Some, None, Result, Ok, Err, refl, sym, ap, subst}
+use Rattle.std.proofs.Common.{◌∙◌, arith, append_assoc, append-nil}
 use Rattle.std.proofs.lemmas.Bool.{ne_eqb}
 use Rattle.std.proofs.lemmas.List.{take_min}
 use Rattle.std.proofs.Math.Seq.{take-append_seam, take-length}
@@ -78,7 +79,8 @@ unfolding front_length front_lines job_fault
 front_before bytes follows none =
     let all = bytes ++ 10 ∷ follows in
     let job = bytes ++ 10 ∷ [] in
-    let is : lines_to_end First (lines all) ≡ lines job = ap (lines_to_end First) (lines_append bytes follows) ∙ front_of 1 blank (lines job) (lines follows) none in
+    let is : lines_to_end First (lines all) ≡ lines job = ap (lines_to_end First) (lines_append bytes follows)
+    ∙ front_of 1 blank (lines job) (lines follows) none in
     take_min (length (text (lines_to_end First (lines all)))) all
     ∙ ap (λ (ls : List (List ℕ)). take (length (text ls)) all) is
     ∙ ap (λ (x : List ℕ). take (length x) all) (text_lines bytes)
@@ -86,7 +88,8 @@ front_before bytes follows none =
     ∙ take-append_seam job follows
 
 -- the first faulty line of a front is that of the text as a job
-front_first : (n : ℕ) (d : Draft) (ls : List (List ℕ)) (found : JobFault × ℕ) → fault_from n d (lines_to_end d.place ls) ≡ Some found → fault_from n d ls ≡ Some found
+front_first : (n : ℕ) (d : Draft) (ls : List (List ℕ)) (found : JobFault × ℕ) → fault_from n d (lines_to_end d.place ls) ≡ Some found
+    → fault_from n d ls ≡ Some found
 front_first n d [] found h = h
 front_first n d (l ∷ ls) found h = chosen (is_behind_end d.place) refl (λ (e : Draft). front_first (n + 1) e ls found) h
   where
@@ -97,12 +100,14 @@ front_first n d (l ∷ ls) found h = chosen (is_behind_end d.place) refl (λ (e 
     ended BehindEnd h = refl
     ended _ h = absurd cc
 
-    step : (r : Result Draft JobFault) → read_line d l ≡ r → ((e : Draft) → fault_from (n + 1) e (lines_to_end e.place ls) ≡ Some found → fault_from (n + 1) e ls ≡ Some found)
+    step : (r : Result Draft JobFault) → read_line d l ≡ r
+        → ((e : Draft) → fault_from (n + 1) e (lines_to_end e.place ls) ≡ Some found → fault_from (n + 1) e ls ≡ Some found)
         → behind_line n r (λ e. fault_from (n + 1) e (lines_to_end next ls)) ≡ Some found → behind_line n r (λ e. fault_from (n + 1) e ls) ≡ Some found
     step (Err fault) is rest h = h
     step (Ok e) is rest h = rest e (subst (λ (place : Place). fault_from (n + 1) e (lines_to_end place ls) ≡ Some found) (place_after d e l is) h)
 
-    chosen : (b : Bool) → is_behind_end d.place ≡ b → ((e : Draft) → fault_from (n + 1) e (lines_to_end e.place ls) ≡ Some found → fault_from (n + 1) e ls ≡ Some found)
+    chosen : (b : Bool) → is_behind_end d.place ≡ b
+        → ((e : Draft) → fault_from (n + 1) e (lines_to_end e.place ls) ≡ Some found → fault_from (n + 1) e ls ≡ Some found)
         → fault_from n d (cond b [] (l ∷ lines_to_end next ls)) ≡ Some found → fault_from n d (l ∷ ls) ≡ Some found
     chosen true is rest h = let e = ended d.place is in absurd cc
     chosen false is rest h = step (read_line d l) refl rest h

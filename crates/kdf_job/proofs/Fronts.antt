@@ -1,5 +1,6 @@
 -- The lines of the job at the front of a text.
-use Rattle.std.proofs.Common.{◌≡◌, ℕ, ◌+◌, ◌<◌, Bool, true, false, cond, eqb, List, [], ◌∷◌, ◌++◌, length, drop, min, Option, Some, None, Result, Ok, Err, refl, sym, ap, subst, ◌∙◌, arith, ⊎_elim}
+use Rattle.std.proofs.Common.{◌≡◌, ℕ, ◌+◌, ◌<◌, Bool, true, false, cond, eqb, List, [], ◌∷◌, ◌++◌, length, drop, min, Option, Some, None, Result, Ok, Err, refl}
+use Rattle.std.proofs.Common.{sym, ap, subst, ◌∙◌, arith, ⊎_elim}
 use Rattle.std.proofs.lemmas.Bool.{cases_Bool}
 use Rattle.std.proofs.lemmas.Bool.Decides.{nat_tests}
 use Rattle.std.specs.Prelude.{◌&&◌, nat_lt, not}
@@ -38,11 +39,13 @@ place_after d e l h = told (told_at d.place l) h
     told (Err fault) h = absurd cc
     told (Ok form) h = taken form (fault_of form d) h
 
-pub to_end_on : (place : Place) (l : List ℕ) (ls : List (List ℕ)) → is_behind_end place ≡ false → lines_to_end place (l ∷ ls) ≡ l ∷ lines_to_end (place_behind place (told_at place l)) ls
+pub to_end_on : (place : Place) (l : List ℕ) (ls : List (List ℕ)) → is_behind_end place ≡ false
+    → lines_to_end place (l ∷ ls) ≡ l ∷ lines_to_end (place_behind place (told_at place l)) ls
 to_end_on place l ls goes_on = rw goes_on refl
 
 -- a line of the front
-front_on : (old new : Lines) (d e : Draft) → is_behind_end d.place ≡ false → Reads old d new e → lines_to_end d.place (ahead old) ≡ line (ahead old) 1 ∷ lines_to_end e.place (ahead new)
+front_on : (old new : Lines) (d e : Draft) → is_behind_end d.place ≡ false → Reads old d new e
+    → lines_to_end d.place (ahead old) ≡ line (ahead old) 1 ∷ lines_to_end e.place (ahead new)
 front_on old new d e goes_on p =
     let l = line (ahead old) 1 in
     ap (lines_to_end d.place) p.here
@@ -53,14 +56,18 @@ front_on old new d e goes_on p =
 pub front_fault_on : (old new : Lines) (d e : Draft) → is_behind_end d.place ≡ false → Reads old d new e
     → fault_from old.number d (lines_to_end d.place (ahead old)) ≡ fault_from new.number e (lines_to_end e.place (ahead new))
 front_fault_on old new d e goes_on p =
-    ap (fault_from old.number d) (front_on old new d e goes_on p) ∙ fault_on old.number new.number d e (line (ahead old) 1) (lines_to_end e.place (ahead new)) p.next p.read
+    ap (fault_from old.number d) (front_on old new d e goes_on p) ∙ fault_on old.number new.number d e (line (ahead old) 1) (lines_to_end e.place (ahead new))
+    p.next p.read
 
-pub front_told_on : (old new : Lines) (d e : Draft) → is_behind_end d.place ≡ false → Reads old d new e → draft_of d (lines_to_end d.place (ahead old)) ≡ draft_of e (lines_to_end e.place (ahead new))
-front_told_on old new d e goes_on p = ap (draft_of d) (front_on old new d e goes_on p) ∙ told_on d e (line (ahead old) 1) (lines_to_end e.place (ahead new)) p.read
+pub front_told_on : (old new : Lines) (d e : Draft) → is_behind_end d.place ≡ false → Reads old d new e
+    → draft_of d (lines_to_end d.place (ahead old)) ≡ draft_of e (lines_to_end e.place (ahead new))
+front_told_on old new d e goes_on p = ap (draft_of d) (front_on old new d e goes_on p)
+    ∙ told_on d e (line (ahead old) 1) (lines_to_end e.place (ahead new)) p.read
 
 pub front_longer : (old new : Lines) (d e : Draft) → is_behind_end d.place ≡ false → Reads old d new e
     → length (text (lines_to_end d.place (ahead old))) ≡ length (line (ahead old) 1) + 1 + length (text (lines_to_end e.place (ahead new)))
-front_longer old new d e goes_on p = ap (λ (ls : List (List ℕ)). length (text ls)) (front_on old new d e goes_on p) ∙ text_length (line (ahead old) 1) (lines_to_end e.place (ahead new))
+front_longer old new d e goes_on p = ap (λ (ls : List (List ℕ)). length (text ls)) (front_on old new d e goes_on p)
+    ∙ text_length (line (ahead old) 1) (lines_to_end e.place (ahead new))
 
 -- a line of the front that has a fault
 pub front_stopped : (at : Lines) (d : Draft) (e : JobError) → is_behind_end d.place ≡ false → 0 < length at.rest.now → Says e (next_fault at d)
@@ -77,7 +84,8 @@ pub some_to_end : (at : Lines) (place : Place) (goes_on : Bool) → goes_on ≡ 
     → (0 < length at.rest.now) × (is_behind_end place ≡ false)
 some_to_end at place b is h = grind (arith, nat_tests)
 
-pub none_to_end : (at : Lines) (place : Place) (goes_on : Bool) → goes_on ≡ (nat_lt 0 (length at.rest.now) && not (is_behind_end place)) → goes_on ≡ false → lines_to_end place (ahead at) ≡ []
+pub none_to_end : (at : Lines) (place : Place) (goes_on : Bool) → goes_on ≡ (nat_lt 0 (length at.rest.now) && not (is_behind_end place)) → goes_on ≡ false
+    → lines_to_end place (ahead at) ≡ []
 none_to_end at place b is h =
     ⊎_elim
     (λ (none : eqb (length at.rest.now) 0 ≡ true). ap (lines_to_end place) (no-lines at.rest.now none))
@@ -124,15 +132,18 @@ unfolding job_fault
 front_read bytes at d e = ap (fault_from 1 blank) (front_has bytes) ∙ e
 
 -- the fault of the front and what it tells, where all of its lines are read
-pub front_ends : (bytes : List ℕ) (at : Lines) (d : Draft) → fault_from 1 blank (front_lines bytes) ≡ fault_from at.number d (lines_to_end d.place (ahead at)) → lines_to_end d.place (ahead at) ≡ []
+pub front_ends : (bytes : List ℕ) (at : Lines) (d : Draft) → fault_from 1 blank (front_lines bytes) ≡ fault_from at.number d (lines_to_end d.place (ahead at))
+    → lines_to_end d.place (ahead at) ≡ []
     → front_fault bytes ≡ at_line at.number (end_fault d.place)
 front_ends bytes at d e over = front_read bytes at d e ∙ ap (fault_from at.number d) over
 
-pub front_tells : (bytes : List ℕ) (at : Lines) (d : Draft) → draft_of blank (front_lines bytes) ≡ draft_of d (lines_to_end d.place (ahead at)) → lines_to_end d.place (ahead at) ≡ [] → front_job bytes ≡ job_of d
+pub front_tells : (bytes : List ℕ) (at : Lines) (d : Draft) → draft_of blank (front_lines bytes) ≡ draft_of d (lines_to_end d.place (ahead at))
+    → lines_to_end d.place (ahead at) ≡ [] → front_job bytes ≡ job_of d
 unfolding job
 front_tells bytes at d e over = ap (λ (ls : List (List ℕ)). job_of (draft_of blank ls)) (front_has bytes) ∙ ap job_of (e ∙ ap (draft_of d) over)
 
-pub front_is_so_long : (bytes : List ℕ) (n : ℕ) (at : Lines) (place : Place) → length (text (front_lines bytes)) ≡ n + length (text (lines_to_end place (ahead at))) → lines_to_end place (ahead at) ≡ []
+pub front_is_so_long : (bytes : List ℕ) (n : ℕ) (at : Lines) (place : Place)
+    → length (text (front_lines bytes)) ≡ n + length (text (lines_to_end place (ahead at))) → lines_to_end place (ahead at) ≡ []
     → min n (length bytes) ≡ front_length bytes
 unfolding front_length text
 front_is_so_long bytes n at place e over =
@@ -143,4 +154,5 @@ front_is_so_long bytes n at place e over =
 -- nothing is read
 pub front_begins : (bytes : List ℕ) (d : Draft) (at : Lines) → d ≡ blank → at.rest.now ≡ bytes → front_lines bytes ≡ lines_to_end d.place (ahead at)
 unfolding front_lines
-front_begins bytes d at blank rest = ap (λ (bs : List ℕ). lines_to_end First (lines bs)) (sym rest) ∙ ap (λ (x : Draft). lines_to_end x.place (ahead at)) (sym blank)
+front_begins bytes d at blank rest = ap (λ (bs : List ℕ). lines_to_end First (lines bs)) (sym rest)
+    ∙ ap (λ (x : Draft). lines_to_end x.place (ahead at)) (sym blank)

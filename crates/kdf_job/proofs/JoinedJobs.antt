@@ -1,5 +1,6 @@
 -- A job whose schedule goes on with further lines.
-use Rattle.std.proofs.Common.{◌≡◌, ℕ, ◌+◌, Bool, true, false, cond, List, [], ◌∷◌, ◌++◌, length, map, Option, Some, None, Result, Ok, Err, refl, sym, ap, ◌∙◌, arith, append_assoc, append-nil}
+use Rattle.std.proofs.Common.{◌≡◌, ℕ, ◌+◌, Bool, true, false, cond, List, [], ◌∷◌, ◌++◌, length, map, Option, Some, None, Result, Ok, Err, refl, sym, ap, ◌∙◌}
+use Rattle.std.proofs.Common.{arith, append_assoc, append-nil}
 use Rattle.std.specs.Prelude.{codes}
 use Rattle.std.specs.Option.{option_map, option_to_list}
 use Rattle.kdf_text.specs.Lines.{is_text, lines, words}
@@ -26,11 +27,13 @@ told_through : (d : Draft) (ls more : List (List ℕ)) → draft_of d (ls ++ mor
 told_through d [] more = refl
 told_through d (l ∷ ls) more = told_through (or_same d (read_line d l)) ls more
 
-read_through : (n : ℕ) (d : Draft) (ls others more : List (List ℕ)) → fault_from n d (ls ++ others) ≡ None → fault_from n d (ls ++ more) ≡ fault_from (n + length ls) (draft_of d ls) more
+read_through : (n : ℕ) (d : Draft) (ls others more : List (List ℕ)) → fault_from n d (ls ++ others) ≡ None
+    → fault_from n d (ls ++ more) ≡ fault_from (n + length ls) (draft_of d ls) more
 read_through n d [] others more none = let e : n ≡ n + 0 = omega arith in ap (λ (m : ℕ). fault_from m d more) e
 read_through n d (l ∷ ls) others more none = step (read_line d l) (λ (e : Draft). read_through (n + 1) e ls others more) none
   where
-    step : (r : Result Draft JobFault) → ((e : Draft) → fault_from (n + 1) e (ls ++ others) ≡ None → fault_from (n + 1) e (ls ++ more) ≡ fault_from (n + 1 + length ls) (draft_of e ls) more)
+    step : (r : Result Draft JobFault) → ((e : Draft) → fault_from (n + 1) e (ls ++ others) ≡ None
+        → fault_from (n + 1) e (ls ++ more) ≡ fault_from (n + 1 + length ls) (draft_of e ls) more)
         → behind_line n r (λ e. fault_from (n + 1) e (ls ++ others)) ≡ None
         → behind_line n r (λ e. fault_from (n + 1) e (ls ++ more)) ≡ fault_from (n + length (l ∷ ls)) (draft_of (or_same d r) ls) more
     step (Err fault) rest h = absurd (a_fault _ h)
@@ -41,12 +44,14 @@ after_end : (n : ℕ) (d : Draft) (l : List ℕ) (ls : List (List ℕ)) → d.pl
 unfolding read_line
 after_end n d l ls at = ap (λ (place : Place). behind_line n (with_told d (told_at place l)) (λ e. fault_from (n + 1) e ls)) at
 
-in_place : (n : ℕ) (d : Draft) (l : List ℕ) (ls : List (List ℕ)) → d.place ≡ InSchedule → fault_from n d (l ∷ ls) ≡ behind_line n (with_told d (told_at InSchedule l)) (λ e. fault_from (n + 1) e ls)
+in_place : (n : ℕ) (d : Draft) (l : List ℕ) (ls : List (List ℕ)) → d.place ≡ InSchedule
+    → fault_from n d (l ∷ ls) ≡ behind_line n (with_told d (told_at InSchedule l)) (λ e. fault_from (n + 1) e ls)
 unfolding read_line
 in_place n d l ls at = ap (λ (place : Place). behind_line n (with_told d (told_at place l)) (λ e. fault_from (n + 1) e ls)) at
 
 -- lines of a schedule ask for nothing but its events
-pub as_scheduled : (n : ℕ) (place : Place) (d : Draft) (ls : List (List ℕ)) → d.place ≡ place → IsInSchedule place → fault_from n d ls ≡ fault_from n (scheduled place d.events) ls
+pub as_scheduled : (n : ℕ) (place : Place) (d : Draft) (ls : List (List ℕ)) → d.place ≡ place → IsInSchedule place
+    → fault_from n d ls ≡ fault_from n (scheduled place d.events) ls
 as_scheduled n place d [] at s = ap (λ (x : Place). at_line n (end_fault x)) at
 as_scheduled n BehindEnd d (l ∷ ls) at s = after_end n d l ls at ∙ sym (after_end n (scheduled BehindEnd d.events) l ls refl)
 as_scheduled n InSchedule d (l ∷ ls) at s =
@@ -54,14 +59,18 @@ as_scheduled n InSchedule d (l ∷ ls) at s =
     ∙ by_event (event l) (is_text (codes "ENDJOB") l) (λ (x : Place) (e : Draft). as_scheduled (n + 1) x e ls)
     ∙ sym (in_place n (scheduled InSchedule d.events) l ls refl)
   where
-    by_fault : (what : Event) (f : Option JobFault) → ((x : Place) (e : Draft) → e.place ≡ x → IsInSchedule x → fault_from (n + 1) e ls ≡ fault_from (n + 1) (scheduled x e.events) ls)
-        → behind_line n (or_fault (AnEvent what) d f) (λ e. fault_from (n + 1) e ls) ≡ behind_line n (or_fault (AnEvent what) (scheduled InSchedule d.events) f) (λ e. fault_from (n + 1) e ls)
+    by_fault : (what : Event) (f : Option JobFault)
+        → ((x : Place) (e : Draft) → e.place ≡ x → IsInSchedule x → fault_from (n + 1) e ls ≡ fault_from (n + 1) (scheduled x e.events) ls)
+        → behind_line n (or_fault (AnEvent what) d f) (λ e. fault_from (n + 1) e ls) ≡ behind_line n
+        (or_fault (AnEvent what) (scheduled InSchedule d.events) f) (λ e. fault_from (n + 1) e ls)
     by_fault what (Some f) rest = refl
     by_fault what None rest = rest InSchedule (with_line (AnEvent what) d) refl (tt {0})
 
-    by_event : (r : Result Event EventFault) (b : Bool) → ((x : Place) (e : Draft) → e.place ≡ x → IsInSchedule x → fault_from (n + 1) e ls ≡ fault_from (n + 1) (scheduled x e.events) ls)
+    by_event : (r : Result Event EventFault) (b : Bool)
+        → ((x : Place) (e : Draft) → e.place ≡ x → IsInSchedule x → fault_from (n + 1) e ls ≡ fault_from (n + 1) (scheduled x e.events) ls)
         → behind_line n (with_told d (first_told (of_event r ∷ cond b (Some (Ok AnEndJob)) None ∷ []))) (λ e. fault_from (n + 1) e ls)
-        ≡ behind_line n (with_told (scheduled InSchedule d.events) (first_told (of_event r ∷ cond b (Some (Ok AnEndJob)) None ∷ []))) (λ e. fault_from (n + 1) e ls)
+        ≡ behind_line n (with_told (scheduled InSchedule d.events) (first_told (of_event r ∷ cond b (Some (Ok AnEndJob)) None ∷ [])))
+        (λ e. fault_from (n + 1) e ls)
     by_event (Ok what) b rest = by_fault what (event_fault what d.events) rest
     by_event (Err fault_of_event.Number) b rest = refl
     by_event (Err fault_of_event.Form) false rest = refl
@@ -72,19 +81,22 @@ as_scheduled n _ d (l ∷ ls) at s = absurd s
 abbrev job_with : Draft → Option SlotDraft → List Event → Job
 job_with d slot events = record { slots = map (with_pool d.pool) (d.slots ++ option_to_list (option_map slot_of slot)); events = events; pool = d.pool }
 
-in_place_told : (d : Draft) (l : List ℕ) (ls : List (List ℕ)) → d.place ≡ InSchedule → draft_of d (l ∷ ls) ≡ draft_of (or_same d (with_told d (told_at InSchedule l))) ls
+in_place_told : (d : Draft) (l : List ℕ) (ls : List (List ℕ)) → d.place ≡ InSchedule
+    → draft_of d (l ∷ ls) ≡ draft_of (or_same d (with_told d (told_at InSchedule l))) ls
 unfolding read_line
 in_place_told d l ls at = ap (λ (place : Place). draft_of (or_same d (with_told d (told_at place l))) ls) at
 
 -- lines of a schedule without a fault tell their events, and nothing else
-pub told_joined : (n : ℕ) (place : Place) (d : Draft) (ls : List (List ℕ)) → d.place ≡ place → IsInSchedule place → fault_from n d ls ≡ None → job_of (draft_of d ls) ≡ joined (job_of d) (events_in ls)
+pub told_joined : (n : ℕ) (place : Place) (d : Draft) (ls : List (List ℕ)) → d.place ≡ place → IsInSchedule place → fault_from n d ls ≡ None
+    → job_of (draft_of d ls) ≡ joined (job_of d) (events_in ls)
 told_joined n place d [] at s none = ap (job_with d d.slot) (sym (append-nil d.events))
 told_joined n BehindEnd d (l ∷ ls) at s none = absurd (a_fault _ (sym (after_end n d l ls at) ∙ none))
 told_joined n InSchedule d (l ∷ ls) at s none =
     ap job_of (in_place_told d l ls at)
     ∙ by_event (event l) (is_text (codes "ENDJOB") l) (λ (x : Place) (e : Draft). told_joined (n + 1) x e ls) (sym (in_place n d l ls at) ∙ none)
   where
-    by_fault : (what : Event) (f : Option JobFault) → ((x : Place) (e : Draft) → e.place ≡ x → IsInSchedule x → fault_from (n + 1) e ls ≡ None → job_of (draft_of e ls) ≡ joined (job_of e) (events_in ls))
+    by_fault : (what : Event) (f : Option JobFault) → ((x : Place) (e : Draft) → e.place ≡ x → IsInSchedule x → fault_from (n + 1) e ls ≡ None
+        → job_of (draft_of e ls) ≡ joined (job_of e) (events_in ls))
         → behind_line n (or_fault (AnEvent what) d f) (λ e. fault_from (n + 1) e ls) ≡ None
         → job_of (draft_of (or_same d (or_fault (AnEvent what) d f)) ls) ≡ joined (job_of d) (what ∷ events_in ls)
     by_fault what (Some f) rest h = absurd (a_fault _ h)
@@ -93,9 +105,11 @@ told_joined n InSchedule d (l ∷ ls) at s none =
         ∙ ap (λ (o : Option SlotDraft). job_with d o ((d.events ++ what ∷ []) ++ events_in ls)) (same_slot what d.slot)
         ∙ ap (job_with d d.slot) (append_assoc d.events (what ∷ []) (events_in ls))
 
-    by_event : (r : Result Event EventFault) (b : Bool) → ((x : Place) (e : Draft) → e.place ≡ x → IsInSchedule x → fault_from (n + 1) e ls ≡ None → job_of (draft_of e ls) ≡ joined (job_of e) (events_in ls))
+    by_event : (r : Result Event EventFault) (b : Bool) → ((x : Place) (e : Draft) → e.place ≡ x → IsInSchedule x → fault_from (n + 1) e ls ≡ None
+        → job_of (draft_of e ls) ≡ joined (job_of e) (events_in ls))
         → behind_line n (with_told d (first_told (of_event r ∷ cond b (Some (Ok AnEndJob)) None ∷ []))) (λ e. fault_from (n + 1) e ls) ≡ None
-        → job_of (draft_of (or_same d (with_told d (first_told (of_event r ∷ cond b (Some (Ok AnEndJob)) None ∷ [])))) ls) ≡ joined (job_of d) (one_event r ++ events_in ls)
+        → job_of (draft_of (or_same d (with_told d (first_told (of_event r ∷ cond b (Some (Ok AnEndJob)) None ∷ [])))) ls) ≡ joined (job_of d)
+        (one_event r ++ events_in ls)
     by_event (Ok what) b rest h = by_fault what (event_fault what d.events) rest h
     by_event (Err fault_of_event.Number) b rest h = absurd (a_fault _ h)
     by_event (Err fault_of_event.Form) false rest h = absurd (a_fault _ h)
@@ -140,7 +154,8 @@ before one ls are none =
     ∙ ap (joined (job_of d)) no_event in
     record { at = at; job_is = is; events_are = ap (λ (j : Job). j.events) is ∙ append-nil d.events }
 
-pub joined_fault : (one other more : List ℕ) (ls : List (List ℕ)) → lines one ≡ ls ++ codes "ENDJOB" ∷ [] → job_fault one ≡ None → lines other ≡ ls ++ lines more
+pub joined_fault : (one other more : List ℕ) (ls : List (List ℕ)) → lines one ≡ ls ++ codes "ENDJOB" ∷ [] → job_fault one ≡ None
+    → lines other ≡ ls ++ lines more
     → job_fault other ≡ more_fault (length ls + 1) (job one).events more
 unfolding more_fault job_fault
 joined_fault one other more ls are none others =
@@ -154,7 +169,8 @@ joined_fault one other more ls are none others =
     ∙ ap (λ (m : ℕ). fault_from m (scheduled InSchedule d.events) (lines more)) n
     ∙ ap (λ (es : List Event). fault_from (length ls + 1) (scheduled InSchedule es) (lines more)) (sym b.events_are)
 
-pub joined_job : (one other more : List ℕ) (ls : List (List ℕ)) → lines one ≡ ls ++ codes "ENDJOB" ∷ [] → job_fault one ≡ None → lines other ≡ ls ++ lines more → job_fault other ≡ None
+pub joined_job : (one other more : List ℕ) (ls : List (List ℕ)) → lines one ≡ ls ++ codes "ENDJOB" ∷ [] → job_fault one ≡ None → lines other ≡ ls ++ lines more
+    → job_fault other ≡ None
     → job other ≡ joined (job one) (more_events more)
 unfolding more_events job job_fault
 joined_job one other more ls are none others faultless =
@@ -166,4 +182,5 @@ joined_job one other more ls are none others faultless =
     ap (λ (x : List (List ℕ)). job_of (draft_of blank x)) others
     ∙ ap job_of (told_through blank ls (lines more))
     ∙ told_joined (1 + length ls) InSchedule d (lines more) b.at (tt {0}) left
-    ∙ sym (ap (λ (j : Job). joined j (events_in (lines more))) b.job_is ∙ ap (λ (es : List Event). job_with d d.slot (es ++ events_in (lines more))) (append-nil d.events))
+    ∙ sym (ap (λ (j : Job). joined j (events_in (lines more))) b.job_is ∙ ap (λ (es : List Event). job_with d d.slot (es ++ events_in (lines more)))
+    (append-nil d.events))

@@ -22,7 +22,8 @@ use Rattle.kdf_job.proofs.StoreLines.{ends_only}
 end_text : (place : Place) (l : List ℕ) → told_at place l ≡ Ok AnEndJob → l ≡ codes "ENDJOB"
 end_text InSchedule l e = by_event (event l) (is_text (codes "ENDJOB") l) refl e
   where
-    by_event : (r : Result Event EventFault) (b : Bool) → is_text (codes "ENDJOB") l ≡ b → first_told (of_event r ∷ cond b (Some (Ok AnEndJob)) None ∷ []) ≡ Ok AnEndJob → l ≡ codes "ENDJOB"
+    by_event : (r : Result Event EventFault) (b : Bool) → is_text (codes "ENDJOB") l ≡ b → first_told (of_event r ∷ cond b (Some (Ok AnEndJob)) None ∷ [])
+        ≡ Ok AnEndJob → l ≡ codes "ENDJOB"
     by_event (Ok what) b is h = absurd cc
     by_event (Err event_fault.Number) b is h = absurd cc
     by_event (Err event_fault.Form) false is h = absurd cc
@@ -59,9 +60,14 @@ has_end n d [] before none = let after = ended d.place none in absurd cc
     ended _ h = absurd cc
 has_end n d (l ∷ ls) before none = step (read_line d l) refl (λ (e : Draft). has_end (n + 1) e ls) none
   where
-    chosen : (e : Draft) (b : Bool) → read_line d l ≡ Ok e → is_behind_end e.place ≡ b → (is_behind_end e.place ≡ false → fault_from (n + 1) e ls ≡ None → HasEnd ls) → fault_from (n + 1) e ls ≡ None
+    chosen : (e : Draft) (b : Bool) → read_line d l ≡ Ok e → is_behind_end e.place ≡ b
+        → (is_behind_end e.place ≡ false → fault_from (n + 1) e ls ≡ None → HasEnd ls) → fault_from (n + 1) e ls ≡ None
         → HasEnd (l ∷ ls)
-    chosen e true is ends rest h = ([], ap (λ (xs : List (List ℕ)). l ∷ xs) (none_after (n + 1) e ls ends h) ∙ ap (λ (x : List ℕ). x ∷ []) (last_line d e l is ends))
+    chosen e true is ends rest h = (
+      [],
+      ap (λ (xs : List (List ℕ)). l ∷ xs) (none_after (n + 1) e ls ends h)
+          ∙ ap (λ (x : List ℕ). x ∷ []) (last_line d e l is ends),
+    )
     chosen e false is goes_on rest h = let has = rest goes_on h in (l ∷ has.0, ap (λ (xs : List (List ℕ)). l ∷ xs) has.1)
 
     step : (r : Result Draft JobFault) → read_line d l ≡ r → ((e : Draft) → is_behind_end e.place ≡ false → fault_from (n + 1) e ls ≡ None → HasEnd ls)

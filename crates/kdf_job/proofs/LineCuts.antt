@@ -1,5 +1,6 @@
 -- A text that is cut after some of its lines.
-use Rattle.std.proofs.Common.{◌≡◌, ℕ, ◌+◌, ◌<◌, Bool, true, false, cond, eqb, List, [], ◌∷◌, ◌++◌, length, take, drop, min, refl, sym, ap, ◌∙◌, arith, ⊎_elim, append_assoc, append-nil, length-append}
+use Rattle.std.proofs.Common.{◌≡◌, ℕ, ◌+◌, ◌<◌, Bool, true, false, cond, eqb, List, [], ◌∷◌, ◌++◌, length, take, drop, min, refl, sym, ap, ◌∙◌, arith, ⊎_elim}
+use Rattle.std.proofs.Common.{append_assoc, append-nil, length-append}
 use Rattle.std.proofs.lemmas.Bool.{cases_Bool, eqb-true, ne_eqb}
 use Rattle.std.proofs.Math.Seq.{take-append_seam, drop-append_seam}
 use Rattle.kdf_text.specs.Lines.{in_first, line_byte, lines}
@@ -94,13 +95,15 @@ bytes_of ls bytes = min (length (text ls)) (length bytes)
 pub lines_before : (ls more : List (List ℕ)) (bytes : List ℕ) → lines bytes ≡ ls ++ more → lines (take (bytes_of ls bytes) bytes) ≡ ls
 lines_before ls more bytes h =
     let c = cut_at ls more bytes h in
-    let e : take (bytes_of ls bytes) bytes ≡ c.front = ap (λ (n : ℕ). take n bytes) (sym c.many) ∙ ap (take (length c.front)) c.is ∙ take-append_seam c.front c.rest in
+    let e : take (bytes_of ls bytes) bytes ≡ c.front = ap (λ (n : ℕ). take n bytes) (sym c.many) ∙ ap (take (length c.front)) c.is
+    ∙ take-append_seam c.front c.rest in
     ap lines e ∙ c.first
 
 pub lines_behind : (ls more : List (List ℕ)) (bytes : List ℕ) → lines bytes ≡ ls ++ more → lines (drop (bytes_of ls bytes) bytes) ≡ more
 lines_behind ls more bytes h =
     let c = cut_at ls more bytes h in
-    let e : drop (bytes_of ls bytes) bytes ≡ c.rest = ap (λ (n : ℕ). drop n bytes) (sym c.many) ∙ ap (drop (length c.front)) c.is ∙ drop-append_seam c.front c.rest in
+    let e : drop (bytes_of ls bytes) bytes ≡ c.rest = ap (λ (n : ℕ). drop n bytes) (sym c.many) ∙ ap (drop (length c.front)) c.is
+    ∙ drop-append_seam c.front c.rest in
     ap lines e ∙ c.others
 
 -- ---- a text with a byte that ends a line
@@ -118,7 +121,8 @@ lines_append [] follows = refl
 lines_append (b ∷ bytes) follows =
     ap (line_byte b) (lines_append bytes follows) ∙ either (eqb b 10) (lines (bytes ++ 10 ∷ [])) (some_line bytes)
   where
-    either : (x : Bool) (ls : List (List ℕ)) → 0 < length ls → cond x ([] ∷ (ls ++ lines follows)) (in_first b (ls ++ lines follows)) ≡ cond x ([] ∷ ls) (in_first b ls) ++ lines follows
+    either : (x : Bool) (ls : List (List ℕ)) → 0 < length ls → cond x ([] ∷ (ls ++ lines follows)) (in_first b (ls ++ lines follows)) ≡ cond x ([] ∷ ls)
+        (in_first b ls) ++ lines follows
     either true ls some = refl
     either false ls some = in_first_append b ls (lines follows) some
 
@@ -132,6 +136,7 @@ unfolding lines text
 text_lines [] = refl
 text_lines (b ∷ bytes) = either (eqb b 10) refl (lines (bytes ++ 10 ∷ [])) (some_line bytes) (text_lines bytes)
   where
-    either : (x : Bool) → eqb b 10 ≡ x → (ls : List (List ℕ)) → 0 < length ls → text ls ≡ bytes ++ 10 ∷ [] → text (cond x ([] ∷ ls) (in_first b ls)) ≡ b ∷ (bytes ++ 10 ∷ [])
+    either : (x : Bool) → eqb b 10 ≡ x → (ls : List (List ℕ)) → 0 < length ls → text ls ≡ bytes ++ 10 ∷ []
+        → text (cond x ([] ∷ ls) (in_first b ls)) ≡ b ∷ (bytes ++ 10 ∷ [])
     either true is ls some e = ap (λ (t : List ℕ). 10 ∷ t) e ∙ ap (λ (x : ℕ). x ∷ (bytes ++ 10 ∷ [])) (sym (eqb-true b 10 is))
     either false is ls some e = in_first_text b ls some ∙ ap (λ (t : List ℕ). b ∷ t) e

@@ -5,7 +5,8 @@ use Rattle.std.proofs.lemmas.List.FromFn.{length-map-range_with_len}
 use Rattle.std.specs.List.{flat_map, range_with_len}
 use Rattle.kdf_text.specs.Text.{text}
 use Rattle.kdf_text.proofs.Texts.{text-append}
-use Rattle.kdf_job.specs.Made.{letter, letters_from, made_deck, made_lines, made_round, made_rounds, made_slot, made_slots, made_text, reader_line, reader_lines, slot_with}
+use Rattle.kdf_job.specs.Made.{letter, letters_from, made_deck, made_lines, made_round, made_rounds, made_slot, made_slots, made_text, reader_line}
+use Rattle.kdf_job.specs.Made.{reader_lines, slot_with}
 
 size-append : (xs ys : List (List ℕ)) → length (text (xs ++ ys)) ≡ length (text xs) + length (text ys)
 size-append xs ys = ap length (text-append xs ys) ∙ length-append (text xs) (text ys)

@@ -1,11 +1,13 @@
 -- The text of a made job, part by part.
-use Rattle.std.proofs.Common.{◌≡◌, ℕ, ◌+◌, ◌*◌, ◌-◌, List, [], ◌∷◌, ◌++◌, map, suc, zero, codes, decimal, refl, sym, subst, ap, ◌∙◌, arith, append_assoc, append-nil, zero-add, cond, Result, Ok, Err}
+use Rattle.std.proofs.Common.{◌≡◌, ℕ, ◌+◌, ◌*◌, ◌-◌, List, [], ◌∷◌, ◌++◌, map, suc, zero, codes, decimal, refl, sym, subst, ap, ◌∙◌, arith, append_assoc}
+use Rattle.std.proofs.Common.{append-nil, zero-add, cond, Result, Ok, Err}
 use Rattle.std.specs.Prelude.{OnOk, is_ok}
 use Rattle.std.proofs.lemmas.List.FromFn.{map-range_with_len_more}
 use Rattle.std.specs.List.{flat_map, range_with_len}
 use Rattle.kdf_text.specs.Text.{text}
 use Rattle.kdf_text.proofs.Texts.{text_lines_more, text_more}
-use Rattle.kdf_job.specs.Made.{after_steps, letter, letter_of, letters_from, made_deck, made_lines, made_round, made_rounds, made_slot, made_slots, reader_line, reader_lines, slot_with, step}
+use Rattle.kdf_job.specs.Made.{after_steps, letter, letter_of, letters_from, made_deck, made_lines, made_round, made_rounds, made_slot, made_slots, reader_line}
+use Rattle.kdf_job.specs.Made.{reader_lines, slot_with, step}
 use Rattle.std.proofs.Math.Path.{fun_ext}
 
 -- ---- numbers
@@ -57,7 +59,8 @@ front_steps n k x y at is = is ∙ ap step at ∙ sym (steps-next n k)
 line_end : (n : ℕ) (old mid new : List ℕ) → mid ≡ old ++ front n 16 → new ≡ mid ++ 10 ∷ [] → new ≡ old ++ text ((codes "+" ++ letters_from n 0) ∷ [])
 unfolding front letters_from text
 line_end n old mid new all then =
-    let same : map (letter n) (range_with_len 0 16) ≡ map (λ i. letter n (0 + i)) (range_with_len 0 16) = ap (λ (f : ℕ → ℕ). map f (range_with_len 0 16)) (fun_ext one) in
+    let same : map (letter n) (range_with_len 0 16) ≡ map (λ i. letter n (0 + i)) (range_with_len 0 16) =
+    ap (λ (f : ℕ → ℕ). map f (range_with_len 0 16)) (fun_ext one) in
     rw (then, all, same) (append_assoc old _ (10 ∷ []) ∙ ap (λ (xs : List ℕ). old ++ xs) (sym (append-nil _)))
   where
     one : (i : ℕ) → letter n i ≡ letter n (0 + i)
@@ -93,7 +96,8 @@ pub reader_done : (n k : ℕ) (old new : List ℕ) → k ≡ 200 → new ≡ old
 unfolding reader_lines
 reader_done n k old new last all = subst (λ (m : ℕ). new ≡ old ++ text (map (reader_line n 0) (range_with_len 0 m))) last all
 
-pub rounds_done : (k : ℕ) (old new : List ℕ) → k ≡ 410 → new ≡ old ++ text (flat_map (λ (round : ℕ). made_round) (range_with_len 0 k)) → new ≡ old ++ text made_rounds
+pub rounds_done : (k : ℕ) (old new : List ℕ) → k ≡ 410 → new ≡ old ++ text (flat_map (λ (round : ℕ). made_round) (range_with_len 0 k))
+    → new ≡ old ++ text made_rounds
 unfolding made_rounds
 rounds_done k old new last all = subst (λ (m : ℕ). new ≡ old ++ text (flat_map (λ (round : ℕ). made_round) (range_with_len 0 m))) last all
 
@@ -101,7 +105,8 @@ pub slots_done : (n k : ℕ) (old new : List ℕ) → k ≡ 4 → new ≡ old ++
 unfolding made_slots
 slots_done n k old new last all = subst (λ (m : ℕ). new ≡ old ++ text (flat_map (made_slot n) (range_with_len 0 m))) last all
 
-pub round_done : (k : ℕ) (old mid new : List ℕ) → k ≡ 8 → mid ≡ old ++ text (codes "ORDERS 80" ∷ []) → new ≡ mid ++ text (map (λ d. codes "END " ++ decimal d) (range_with_len 0 k))
+pub round_done : (k : ℕ) (old mid new : List ℕ) → k ≡ 8 → mid ≡ old ++ text (codes "ORDERS 80" ∷ [])
+    → new ≡ mid ++ text (map (λ d. codes "END " ++ decimal d) (range_with_len 0 k))
     → new ≡ old ++ text made_round
 unfolding made_round
 round_done k old mid new last first all =
@@ -140,17 +145,24 @@ slots_more n p x old mid new first at then =
 
 -- its lines in the parts that are written
 slot_parts : (p : ℕ) (reader : List (List ℕ))
-    → (((((codes "SLOT " ++ decimal p) ∷ []) ++ (codes "STORE 96" ∷ codes "DECK" ∷ made_deck ++ codes "ENDDECK" ∷ [])) ++ (codes "DEVICE " ++ decimal (2 * p) ++ codes " " ++ codes "TR") ∷ [])
+    → (((((codes "SLOT " ++ decimal p) ∷ []) ++ (codes "STORE 96" ∷ codes "DECK" ∷ made_deck ++ codes "ENDDECK" ∷ []))
+    ++ (codes "DEVICE " ++ decimal (2 * p) ++ codes " " ++ codes "TR") ∷ [])
     ++ reader ++ (codes "DEVICE " ++ decimal (2 * p + 1) ++ codes " " ++ codes "TP") ∷ []) ++ codes "SHOW 12 12" ∷ []
     ≡ slot_with p reader
 unfolding slot_with
 slot_parts p reader =
-    let front : List (List ℕ) = (codes "SLOT " ++ decimal p) ∷ codes "STORE 96" ∷ codes "DECK" ∷ made_deck ++ codes "ENDDECK" ∷ (codes "DEVICE " ++ decimal (2 * p) ++ codes " TR") ∷ [] in
-    rw (append_assoc (codes "DEVICE " ++ decimal (2 * p)) (codes " ") (codes "TR"), append_assoc (codes "DEVICE " ++ decimal (2 * p + 1)) (codes " ") (codes "TP"))
+    let front : List (List ℕ) = (codes "SLOT " ++ decimal p) ∷ codes "STORE 96" ∷ codes "DECK" ∷ made_deck ++ codes "ENDDECK"
+    ∷ (codes "DEVICE " ++ decimal (2 * p) ++ codes " TR") ∷ [] in
+    rw (
+      append_assoc (codes "DEVICE " ++ decimal (2 * p)) (codes " ") (codes "TR"),
+      append_assoc (codes "DEVICE " ++ decimal (2 * p + 1)) (codes " ")
+          (codes "TP"),
+    )
     (ap (λ (ls : List (List ℕ)). front ++ ls) (append_assoc reader ((codes "DEVICE " ++ decimal (2 * p + 1) ++ codes " TP") ∷ []) (codes "SHOW 12 12" ∷ [])))
 
 pub slot_ends : {E : Type 0} (p : ℕ) (reader : List (List ℕ)) (old mid new : List ℕ) (r : Result (Unit {0}) E)
-    → mid ≡ old ++ text (((((codes "SLOT " ++ decimal p) ∷ []) ++ (codes "STORE 96" ∷ codes "DECK" ∷ made_deck ++ codes "ENDDECK" ∷ [])) ++ (codes "DEVICE " ++ decimal (2 * p) ++ codes " " ++ codes "TR") ∷ [])
+    → mid ≡ old ++ text (((((codes "SLOT " ++ decimal p) ∷ []) ++ (codes "STORE 96" ∷ codes "DECK" ∷ made_deck ++ codes "ENDDECK" ∷ []))
+    ++ (codes "DEVICE " ++ decimal (2 * p) ++ codes " " ++ codes "TR") ∷ [])
     ++ reader ++ (codes "DEVICE " ++ decimal (2 * p + 1) ++ codes " " ++ codes "TP") ∷ [])
     → OnOk r (new ≡ mid ++ text (codes "SHOW 12 12" ∷ [])) → OnOk r (new ≡ old ++ text (slot_with p reader))
 slot_ends p reader old mid new (Ok x) first then =
@@ -163,7 +175,8 @@ pub job_written : (n : ℕ) (old mid new : List ℕ) → mid ≡ old ++ text (((
 unfolding made_lines
 job_written n old mid new first then =
     text_more old mid new _ _ first then
-    ∙ ap (λ (ls : List (List ℕ)). old ++ text (ls ++ codes "ENDJOB" ∷ [])) (append_assoc (codes "KDF9 JOB 1" ∷ made_slots n) (codes "SCHEDULE" ∷ []) made_rounds)
+    ∙ ap (λ (ls : List (List ℕ)). old ++ text (ls ++ codes "ENDJOB" ∷ []))
+    (append_assoc (codes "KDF9 JOB 1" ∷ made_slots n) (codes "SCHEDULE" ∷ []) made_rounds)
 
 pub all_written : (n : ℕ) (old new : List ℕ) → old ≡ [] → new ≡ old ++ text (made_lines n) → new ≡ text (made_lines n)
 all_written n old new none all = rw none at all

@@ -1,5 +1,6 @@
 -- The numbers of the devices of a job.
-use Rattle.std.proofs.Common.{◌≡◌, ◌≢◌, ℕ, zero, suc, ◌<◌, Bool, true, false, cond, eqb, ◌||◌, List, [], ◌∷◌, ◌++◌, length, get_or, map, Option, Some, None, is_some, refl, sym, ap, ◌∙◌, ⊎_elim, arith}
+use Rattle.std.proofs.Common.{◌≡◌, ◌≢◌, ℕ, zero, suc, ◌<◌, Bool, true, false, cond, eqb, ◌||◌, List, [], ◌∷◌, ◌++◌, length, get_or, map, Option, Some, None}
+use Rattle.std.proofs.Common.{is_some, refl, sym, ap, ◌∙◌, ⊎_elim, arith}
 use Rattle.std.specs.Prelude.{find, nat_eq}
 use Rattle.std.specs.List.{AllByRecursion, IsDistinct, flat_map, list_any}
 use Rattle.std.specs.Option.{option_map}
@@ -112,7 +113,9 @@ numbers_cons s slots =
     ∙ map-append (λ (x : JobDevice). x.d) s.devices (flat_map (λ (t : SlotJob). t.devices) slots)
 
 -- a number of one slot is one of all
-pub in_slots : (slots : List SlotJob) (k : ℕ) (x : SlotJob) (d : ℕ) → k < length slots → has (ds (get_or slots k x).devices) d ≡ true → has (numbers_of slots) d ≡ true
+pub in_slots : (slots : List SlotJob) (k : ℕ) (x : SlotJob) (d : ℕ) → k < length slots → has (ds (get_or slots k x).devices) d ≡ true
+    → has (numbers_of slots) d ≡ true
 in_slots [] k x d lt is = absurd (omega arith)
 in_slots (s ∷ slots) zero x d lt is = ap (λ ns. has ns d) (numbers_cons s slots) ∙ has_left (ds s.devices) (numbers_of slots) d is
-in_slots (s ∷ slots) (suc k) x d lt is = ap (λ ns. has ns d) (numbers_cons s slots) ∙ has_right (ds s.devices) (numbers_of slots) d (in_slots slots k x d (omega arith) is)
+in_slots (s ∷ slots) (suc k) x d lt is = ap (λ ns. has ns d) (numbers_cons s slots)
+    ∙ has_right (ds s.devices) (numbers_of slots) d (in_slots slots k x d (omega arith) is)

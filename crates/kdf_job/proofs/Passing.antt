@@ -1,5 +1,6 @@
 -- One line more of a job.
-use Rattle.std.proofs.Common.{◌≡◌, ℕ, ◌+◌, ◌<◌, ◌≤◌, true, false, cond, eqb, List, [], ◌∷◌, length, drop, Option, None, Result, Ok, Err, refl, sym, ap, subst, ◌∙◌, arith}
+use Rattle.std.proofs.Common.{◌≡◌, ℕ, ◌+◌, ◌<◌, ◌≤◌, true, false, cond, eqb, List, [], ◌∷◌, length, drop, Option, None, Result, Ok, Err, refl, sym, ap, subst}
+use Rattle.std.proofs.Common.{◌∙◌, arith}
 use Rattle.std.proofs.lemmas.Bool.Decides.{nat_tests}
 use Rattle.kdf_text.specs.declared.lines.Lines.{Lines}
 use Rattle.kdf_text.specs.Ahead.{ahead}
@@ -28,7 +29,8 @@ short_line : (text : List ℕ) → length (line (lines text) 1) ≤ length text
 unfolding lines
 short_line [] = omega arith
 short_line (b ∷ text) =
-    elim (eqb b 10) as (λ (x : _). length (line (cond x ([] ∷ lines text) (in_first b (lines text))) 1) ≤ length (b ∷ text)) [ true ↦ omega arith | false ↦ longer (lines text) (short_line text) ]
+    elim (eqb b 10) as (λ (x : _). length (line (cond x ([] ∷ lines text) (in_first b (lines text))) 1) ≤ length (b ∷ text))
+    [ true ↦ omega arith | false ↦ longer (lines text) (short_line text) ]
   where
     longer : (ls : List (List ℕ)) → length (line ls 1) ≤ length text → length (line (in_first b ls) 1) ≤ length (b ∷ text)
     longer [] h = omega arith
@@ -45,7 +47,8 @@ pub told_on : (d e : Draft) (l : List ℕ) (ls : List (List ℕ)) → read_line 
 told_on d e l ls read = ap (λ (r : Result Draft JobFault). draft_of (or_same d r) ls) read
 
 -- a line that has a fault
-pub says_first : (e : JobError) (n : ℕ) (r : Result Draft JobFault) (follows : Draft → Option (JobFault × ℕ)) → Says e (behind_line n r (λ d. None)) → Says e (behind_line n r follows)
+pub says_first : (e : JobError) (n : ℕ) (r : Result Draft JobFault) (follows : Draft → Option (JobFault × ℕ)) → Says e (behind_line n r (λ d. None))
+    → Says e (behind_line n r follows)
 says_first (Fault fault m) n (Err found) follows h = h
 says_first (Fault fault m) n (Ok d) follows h = absurd cc
 says_first Memory n r follows h = tt {0}
@@ -68,14 +71,16 @@ reads old new d e text here some rest next is = record {
 
 pub passes : (old new : Lines) (before after : ReadDraft) (text : List ℕ) → text ≡ line (ahead old) 1 → 0 < length old.rest.now → ahead new ≡ drop 1 (ahead old)
     → (0 < length (ahead old) → new.number ≡ old.number + 1) → (0 < length new.rest.now → length text + 1 + length new.rest.now ≤ length old.rest.now)
-    → weight (shown_draft before) + length old.rest.now ≤ TEXT_LIMIT → Taken (told_at before.place text) (length text + 1) before after → Passes old before new after
+    → weight (shown_draft before) + length old.rest.now ≤ TEXT_LIMIT → Taken (told_at before.place text) (length text + 1) before after
+    → Passes old before new after
 passes old new before after text here some rest next within fits h = record {
   reads = reads old new (shown_draft before) (shown_draft after) text here some rest next h.is;
   sound = h.sound;
   fits = λ more. let w = within more in let g = h.grown in omega arith;
 }
 
-pub stops : (old : Lines) (d : Draft) (text : List ℕ) (error : LineError) → text ≡ line (ahead old) 1 → IsRefused d (told_at d.place text) error → Says (at_number old.number error) (next_fault old d)
+pub stops : (old : Lines) (d : Draft) (text : List ℕ) (error : LineError) → text ≡ line (ahead old) 1 → IsRefused d (told_at d.place text) error
+    → Says (at_number old.number error) (next_fault old d)
 unfolding read_line
 stops old d text (line_error.Fault fault) here h =
     ap (λ (r : Result Draft JobFault). behind_line old.number r (λ e. None)) (subst (λ (t : List ℕ). with_told d (told_at d.place t) ≡ Err fault) here h)
@@ -108,14 +113,17 @@ stopped at d e some h =
     (says_first e at.number (read_line d (line (ahead at) 1)) (λ x. fault_from (at.number + 1) x rest) h)
 
 -- the lines of a job, and its end
-pub job_read : (bytes : List ℕ) (at : Lines) (d : Draft) → fault_from 1 blank (lines bytes) ≡ fault_from at.number d (ahead at) → job_fault bytes ≡ fault_from at.number d (ahead at)
+pub job_read : (bytes : List ℕ) (at : Lines) (d : Draft) → fault_from 1 blank (lines bytes) ≡ fault_from at.number d (ahead at)
+    → job_fault bytes ≡ fault_from at.number d (ahead at)
 unfolding job_fault
 job_read bytes at d e = e
 
-pub fault_ends : (bytes : List ℕ) (at : Lines) (d : Draft) → fault_from 1 blank (lines bytes) ≡ fault_from at.number d (ahead at) → eqb (length at.rest.now) 0 ≡ true
+pub fault_ends : (bytes : List ℕ) (at : Lines) (d : Draft) → fault_from 1 blank (lines bytes) ≡ fault_from at.number d (ahead at)
+    → eqb (length at.rest.now) 0 ≡ true
     → job_fault bytes ≡ at_line at.number (end_fault d.place)
 fault_ends bytes at d e none = job_read bytes at d e ∙ ap (fault_from at.number d) (no-lines at.rest.now none)
 
-pub job_ends : (bytes : List ℕ) (at : Lines) (d : Draft) → draft_of blank (lines bytes) ≡ draft_of d (ahead at) → eqb (length at.rest.now) 0 ≡ true → job bytes ≡ job_of d
+pub job_ends : (bytes : List ℕ) (at : Lines) (d : Draft) → draft_of blank (lines bytes) ≡ draft_of d (ahead at) → eqb (length at.rest.now) 0 ≡ true
+    → job bytes ≡ job_of d
 unfolding job
 job_ends bytes at d e none = ap job_of (e ∙ ap (draft_of d) (no-lines at.rest.now none))

@@ -10,7 +10,8 @@ use Rattle.kdf_journal.specs.declared.kind.Kind.TheVariants.{Tr, Tp, Cr, Lp, Mt}
 use Rattle.kdf_job.specs.declared.draft.Draft.{Draft as ReadDraft}
 use Rattle.kdf_job.specs.declared.fault.JobFault.{JobFault}
 use Rattle.kdf_job.specs.declared.fault.JobFault.TheVariants.{BadLabel, DeviceTwice, PoolKind}
-use Rattle.kdf_job.specs.Draft.{SlotDraft, Draft, fault_of, is_writer, lent_fault, numbers_in, numbers_of, numbers_told, slot_of, slots_told, tells, with_line, words_in}
+use Rattle.kdf_job.specs.Draft.{SlotDraft, Draft, fault_of, is_writer, lent_fault, numbers_in, numbers_of, numbers_told, slot_of, slots_told, tells, with_line}
+use Rattle.kdf_job.specs.Draft.{words_in}
 use Rattle.kdf_job.specs.Forms.{APoolDevice}
 use Rattle.kdf_job.specs.Job.{SlotJob}
 use Rattle.kdf_job.specs.Kept.{AreTold, IsBegun, IsKept}
@@ -67,7 +68,8 @@ lent_kept words numbers d n kind label was there few free writer =
     }
 
 pub lent_takes : (n : ℕ) (kind : Kind) (label : List ℕ) (old new : ReadDraft) → IsSound old → is_some (shown_draft old).slot ≡ true → n ≤ 15
-    → fault_of (APoolDevice n kind label) (shown_draft old) ≡ None → shown_draft new ≡ with_line (APoolDevice n kind label) (shown_draft old) → new.words ≡ old.words
+    → fault_of (APoolDevice n kind label) (shown_draft old) ≡ None → shown_draft new ≡ with_line (APoolDevice n kind label) (shown_draft old)
+    → new.words ≡ old.words
     → new.numbers.items ≡ old.numbers.items ++ n ∷ [] → Taken (Ok (APoolDevice n kind label)) 1 old new
 lent_takes n kind label old new sound there few faultless shown words numbers =
     let d = shown_draft old in

@@ -1,5 +1,6 @@
 -- The pool of a job without a fault, by its lines.
-use Rattle.std.proofs.Common.{◌≡◌, ℕ, ◌+◌, Bool, true, false, cond, List, [], ◌∷◌, ◌++◌, Option, Some, None, Result, Ok, Err, refl, sym, ap, ◌∙◌, append_assoc, append-nil}
+use Rattle.std.proofs.Common.{◌≡◌, ℕ, ◌+◌, Bool, true, false, cond, List, [], ◌∷◌, ◌++◌, Option, Some, None, Result, Ok, Err, refl, sym, ap, ◌∙◌, append_assoc}
+use Rattle.std.proofs.Common.{append-nil}
 use Rattle.std.specs.Prelude.{codes}
 use Rattle.kdf_text.specs.Lines.{is_text, lines}
 use Rattle.kdf_journal.specs.declared.kind.Kind.{Kind}
@@ -86,7 +87,8 @@ inside (line ∷ ls) = step (told_at BehindPool line) refl (pool_tells line) (in
         → lent_on BehindPool r (λ at. lent_from at ls) ≡ lent_from BehindPool (cond (closes r) [] (line ∷ rest_of_pool ls))
     step (Err fault) e is rest = rest ∙ ap (λ (r : Result Form JobFault). lent_on BehindPool r (λ at. lent_from at (rest_of_pool ls))) (sym e)
     step (Ok (APoolDevice n kind label)) e is rest =
-        ap (λ (xs : List (ℕ × Kind)). (n, kind) ∷ xs) rest ∙ ap (λ (r : Result Form JobFault). lent_on BehindPool r (λ at. lent_from at (rest_of_pool ls))) (sym e)
+        ap (λ (xs : List (ℕ × Kind)). (n, kind) ∷ xs) rest ∙ ap (λ (r : Result Form JobFault). lent_on BehindPool r (λ at. lent_from at (rest_of_pool ls)))
+        (sym e)
     step (Ok ASchedule) e is rest = in_schedule ls
     step (Ok form) e is rest = absurd is
 

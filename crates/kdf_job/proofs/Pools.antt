@@ -11,7 +11,8 @@ use Rattle.kdf_job.specs.WellFormed.{AreRising, AreSlots, IsLent, IsSlot}
 use Rattle.kdf_job.proofs.Slots.{ds, ps}
 
 -- the pool changes nothing else of a slot
-same_devices : (pool : List (ℕ × Kind)) (slots : List SlotJob) → flat_map (λ (s : SlotJob). s.devices) (map (with_pool pool) slots) ≡ flat_map (λ (s : SlotJob). s.devices) slots
+same_devices : (pool : List (ℕ × Kind)) (slots : List SlotJob) → flat_map (λ (s : SlotJob). s.devices) (map (with_pool pool) slots)
+    ≡ flat_map (λ (s : SlotJob). s.devices) slots
 same_devices pool [] = refl
 same_devices pool (s ∷ slots) = ap (λ (xs : List JobDevice). s.devices ++ xs) (same_devices pool slots)
 
@@ -22,7 +23,8 @@ same_places : (pool : List (ℕ × Kind)) (slots : List SlotJob) → ps (map (wi
 same_places pool [] = refl
 same_places pool (s ∷ slots) = ap (λ (xs : List ℕ). s.p ∷ xs) (same_places pool slots)
 
-same_words : (pool : List (ℕ × Kind)) (n : ℕ) (slots : List SlotJob) → fold (λ (a : ℕ) (s : SlotJob). a + s.size) n (map (with_pool pool) slots) ≡ fold (λ (a : ℕ) (s : SlotJob). a + s.size) n slots
+same_words : (pool : List (ℕ × Kind)) (n : ℕ) (slots : List SlotJob) → fold (λ (a : ℕ) (s : SlotJob). a + s.size) n (map (with_pool pool) slots)
+    ≡ fold (λ (a : ℕ) (s : SlotJob). a + s.size) n slots
 same_words pool n [] = refl
 same_words pool n (s ∷ slots) = same_words pool (n + s.size) slots
 
@@ -41,7 +43,8 @@ is_slot pool s lent was = record {
 pub shared : (pool : List (ℕ × Kind)) (slots : List SlotJob) → All (λ (s : SlotJob). s.pool ≡ pool) (map (with_pool pool) slots)
 shared pool slots = All-map (λ (s : SlotJob). s.pool ≡ pool) (with_pool pool) slots (λ k d lt. refl)
 
-pub are_slots : (pool : List (ℕ × Kind)) (slots : List SlotJob) → AreTold slots → All (λ (x : ℕ × Kind). IsLent x) pool → IsDistinct nat_eq (numbers_of slots ++ numbers_in pool)
+pub are_slots : (pool : List (ℕ × Kind)) (slots : List SlotJob) → AreTold slots → All (λ (x : ℕ × Kind). IsLent x) pool
+    → IsDistinct nat_eq (numbers_of slots ++ numbers_in pool)
     → AreSlots (map (with_pool pool) slots)
 are_slots pool slots told lent owned =
     let all = shared pool slots in

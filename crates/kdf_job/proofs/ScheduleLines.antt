@@ -1,5 +1,6 @@
 -- A line of a schedule after some events.
-use Rattle.std.proofs.Common.{◌≡◌, ℕ, ◌<◌, Bool, true, false, cond, List, [], ◌∷◌, ◌++◌, length, Option, Some, None, Result, Ok, Err, refl, sym, ap, subst, ◌∙◌, arith, append_assoc, append-nil}
+use Rattle.std.proofs.Common.{◌≡◌, ℕ, ◌<◌, Bool, true, false, cond, List, [], ◌∷◌, ◌++◌, length, Option, Some, None, Result, Ok, Err, refl, sym, ap, subst, ◌∙◌}
+use Rattle.std.proofs.Common.{arith, append_assoc, append-nil}
 use Rattle.std.specs.Prelude.{◌&&◌, codes, nat_eq, nat_lt, not}
 use Rattle.std.proofs.lemmas.Bool.Decides.{nat_tests}
 use Rattle.std.specs.Option.{option_map}
@@ -49,31 +50,37 @@ same_end (Some s) = refl
 same_draft : (x y : Draft) (r : Result Draft JobFault) → r ≡ Ok x → r ≡ Ok y → x ≡ y
 same_draft x y r is h = cc
 
-pub goes : (d : Draft) (place : Place) (events : List Event) (l : List ℕ) → with_told (scheduled InSchedule d.events) (told_at InSchedule l) ≡ Ok (scheduled place events)
+pub goes : (d : Draft) (place : Place) (events : List Event) (l : List ℕ) → with_told (scheduled InSchedule d.events) (told_at InSchedule l)
+    ≡ Ok (scheduled place events)
     → Goes d (told_at InSchedule l) (event l) place events
 goes d place events l h = by_event (event l) (is_text (codes "ENDJOB") l) h
   where
-    by_fault : (what : Event) (f : Option JobFault) → event_fault what d.events ≡ f → or_fault (AnEvent what) (scheduled InSchedule d.events) f ≡ Ok (scheduled place events)
+    by_fault : (what : Event) (f : Option JobFault) → event_fault what d.events ≡ f → or_fault (AnEvent what) (scheduled InSchedule d.events) f
+        ≡ Ok (scheduled place events)
         → Goes d (Ok (AnEvent what)) (Ok what) place events
     by_fault what (Some f) e h = absurd cc
     by_fault what None e h =
-        let same = same_draft (with_line (AnEvent what) (scheduled InSchedule d.events)) (scheduled place events) (or_fault (AnEvent what) (scheduled InSchedule d.events) None) refl h in
+        let same = same_draft (with_line (AnEvent what) (scheduled InSchedule d.events)) (scheduled place events)
+        (or_fault (AnEvent what) (scheduled InSchedule d.events) None) refl h in
         let p : InSchedule ≡ place = ap (λ (x : Draft). x.place) same in
         let es : d.events ++ what ∷ [] ≡ events = ap (λ (x : Draft). x.events) same in
         record {
-          told_so = ap (or_fault (AnEvent what) d) e ∙ ap Ok (ap (λ (o : Option SlotDraft). record d { place = InSchedule; slot = o; events = d.events ++ what ∷ [] }) (same_slot what d.slot)
+          told_so = ap (or_fault (AnEvent what) d) e
+              ∙ ap Ok (ap (λ (o : Option SlotDraft). record d { place = InSchedule; slot = o; events = d.events ++ what ∷ [] }) (same_slot what d.slot)
               ∙ ap (λ (x : Place). with_events x (d.events ++ what ∷ []) d) p ∙ ap (λ (x : List Event). with_events place x d) es);
           stands = subst IsInSchedule p (tt {0});
           more = sym es;
         }
 
-    by_event : (r : Result Event EventFault) (b : Bool) → with_told (scheduled InSchedule d.events) (first_told (of_event r ∷ cond b (Some (Ok AnEndJob)) None ∷ [])) ≡ Ok (scheduled place events)
+    by_event : (r : Result Event EventFault) (b : Bool)
+        → with_told (scheduled InSchedule d.events) (first_told (of_event r ∷ cond b (Some (Ok AnEndJob)) None ∷ [])) ≡ Ok (scheduled place events)
         → Goes d (first_told (of_event r ∷ cond b (Some (Ok AnEndJob)) None ∷ [])) r place events
     by_event (Ok what) b h = by_fault what (event_fault what d.events) refl h
     by_event (Err fault_of_event.Number) b h = absurd cc
     by_event (Err fault_of_event.Form) false h = absurd cc
     by_event (Err fault_of_event.Form) true h =
-        let same = same_draft (with_line AnEndJob (scheduled InSchedule d.events)) (scheduled place events) (with_told (scheduled InSchedule d.events) (Ok AnEndJob)) refl h in
+        let same = same_draft (with_line AnEndJob (scheduled InSchedule d.events)) (scheduled place events)
+        (with_told (scheduled InSchedule d.events) (Ok AnEndJob)) refl h in
         let p : BehindEnd ≡ place = ap (λ (x : Draft). x.place) same in
         let es : d.events ≡ events = ap (λ (x : Draft). x.events) same in
         record {
@@ -84,14 +91,17 @@ goes d place events l h = by_event (event l) (is_text (codes "ENDJOB") l) h
         }
 
 -- a fault of a line is its fault after any draft in a schedule
-refused : (d : Draft) (l : List ℕ) (error : JobFault) → with_told (scheduled InSchedule d.events) (told_at InSchedule l) ≡ Err error → with_told d (told_at InSchedule l) ≡ Err error
+refused : (d : Draft) (l : List ℕ) (error : JobFault) → with_told (scheduled InSchedule d.events) (told_at InSchedule l) ≡ Err error
+    → with_told d (told_at InSchedule l) ≡ Err error
 refused d l error h = by_event (event l) (is_text (codes "ENDJOB") l) h
   where
-    by_fault : (what : Event) (f : Option JobFault) → or_fault (AnEvent what) (scheduled InSchedule d.events) f ≡ Err error → or_fault (AnEvent what) d f ≡ Err error
+    by_fault : (what : Event) (f : Option JobFault) → or_fault (AnEvent what) (scheduled InSchedule d.events) f ≡ Err error
+        → or_fault (AnEvent what) d f ≡ Err error
     by_fault what (Some f) h = ap (λ (x : JobFault). Err x) cc
     by_fault what None h = absurd cc
 
-    by_event : (r : Result Event EventFault) (b : Bool) → with_told (scheduled InSchedule d.events) (first_told (of_event r ∷ cond b (Some (Ok AnEndJob)) None ∷ [])) ≡ Err error
+    by_event : (r : Result Event EventFault) (b : Bool)
+        → with_told (scheduled InSchedule d.events) (first_told (of_event r ∷ cond b (Some (Ok AnEndJob)) None ∷ [])) ≡ Err error
         → with_told d (first_told (of_event r ∷ cond b (Some (Ok AnEndJob)) None ∷ [])) ≡ Err error
     by_event (Ok what) b h = by_fault what (event_fault what d.events) h
     by_event (Err fault_of_event.Number) b h = ap (λ (x : JobFault). Err x) cc
@@ -111,7 +121,8 @@ in_schedule BehindEnd s h = absurd cc
 in_schedule _ s h = absurd s
 
 -- the events so far and those of the lines ahead are all
-pub events_on : (old new : Lines) (es more : List Event) (place : Place) → Reads old (scheduled InSchedule es) new (scheduled place more) → es ++ events_in (ahead old) ≡ more ++ events_in (ahead new)
+pub events_on : (old new : Lines) (es more : List Event) (place : Place) → Reads old (scheduled InSchedule es) new (scheduled place more)
+    → es ++ events_in (ahead old) ≡ more ++ events_in (ahead new)
 events_on old new es more place p =
     let l = line (ahead old) 1 in
     let g = read_goes es more place l p.read in
@@ -140,7 +151,8 @@ over at place es b is h =
     and_true false y h = absurd cc
 
 -- it isn't ended, or a line is ahead
-pub not_over : (at : Lines) (place : Place) (es : List Event) (b goes_on : Bool) → IsInSchedule place → goes_on ≡ (nat_lt 0 (length at.rest.now) && not (is_behind_end place)) → goes_on ≡ false
+pub not_over : (at : Lines) (place : Place) (es : List Event) (b goes_on : Bool) → IsInSchedule place
+    → goes_on ≡ (nat_lt 0 (length at.rest.now) && not (is_behind_end place)) → goes_on ≡ false
     → b ≡ (nat_eq (length at.rest.now) 0 && is_behind_end place) → b ≡ false → fault_from at.number (scheduled place es) (ahead at) ≡ Some (BadLine, at.number)
 unfolding read_line
 not_over at InSchedule es b goes_on s on off is h =

@@ -77,7 +77,8 @@ order_count_append [] ys = omega arith
 order_count_append (x ∷ xs) ys = let more = order_count_append xs ys in omega arith
 
 -- the events of a schedule, one by one
-pub orders_left : (all es : List Event) (i : ℕ) (d : Event) → es ++ drop i all ≡ all → i < length all → order_count all ≤ 20000000 → order_count es + orders_in (get_or all i d) ≤ 20000000
+pub orders_left : (all es : List Event) (i : ℕ) (d : Event) → es ++ drop i all ≡ all → i < length all → order_count all ≤ 20000000
+    → order_count es + orders_in (get_or all i d) ≤ 20000000
 orders_left all es i d is lt few =
     let e = ap order_count is in
     let n = order_count_append es (drop i all) in

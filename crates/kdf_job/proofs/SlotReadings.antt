@@ -1,5 +1,6 @@
 -- The slots of a job without a fault, each by its lines.
-use Rattle.std.proofs.Common.{◌≡◌, ℕ, ◌+◌, Bool, true, false, cond, List, [], ◌∷◌, ◌++◌, map, Option, Some, None, Result, Ok, Err, refl, sym, ap, subst, ◌∙◌, append_assoc, append-nil}
+use Rattle.std.proofs.Common.{◌≡◌, ℕ, ◌+◌, Bool, true, false, cond, List, [], ◌∷◌, ◌++◌, map, Option, Some, None, Result, Ok, Err, refl, sym, ap, subst, ◌∙◌}
+use Rattle.std.proofs.Common.{append_assoc, append-nil}
 use Rattle.std.specs.Prelude.{◌==◌, codes, find}
 use Rattle.std.specs.Option.{option_map, option_to_list}
 use Rattle.std.proofs.lemmas.Bool.{eq-eqb, eqb-true}
@@ -11,9 +12,11 @@ use Rattle.kdf_schedule.specs.declared.event.EventFault.TheVariants as event_fau
 use Rattle.kdf_schedule.specs.Events.{event}
 use Rattle.kdf_job.specs.declared.fault.JobFault.{JobFault}
 use Rattle.kdf_job.specs.declared.place.Place.{Place}
-use Rattle.kdf_job.specs.declared.place.Place.TheVariants.{First, BehindHeader, BehindSlot, BehindStore, InDeck, BehindDeck, BehindService, BehindDevice, BehindShow, BehindPool, InSchedule, BehindEnd}
+use Rattle.kdf_job.specs.declared.place.Place.TheVariants.{First, BehindHeader, BehindSlot, BehindStore, InDeck, BehindDeck, BehindService, BehindDevice}
+use Rattle.kdf_job.specs.declared.place.Place.TheVariants.{BehindShow, BehindPool, InSchedule, BehindEnd}
 use Rattle.kdf_job.specs.Draft.{SlotDraft, Draft, blank, fault_of, new_slot, number_at, slot_of, slot_with, slots_told, slots_with, tells, with_line, with_pool}
-use Rattle.kdf_job.specs.Forms.{Form, ASlot, AStore, ADeckLine, APool, APoolDevice, ASchedule, AnEndJob, told, first_told, behind, number_line, of_event, told_at}
+use Rattle.kdf_job.specs.Forms.{Form, ASlot, AStore, ADeckLine, APool, APoolDevice, ASchedule, AnEndJob, told, first_told, behind, number_line, of_event}
+use Rattle.kdf_job.specs.Forms.{told_at}
 use Rattle.kdf_job.specs.Job.{SlotJob}
 use Rattle.kdf_job.specs.Reading.{behind_line, draft_of, fault_from, job, job_fault, or_fault, or_same, read_line, with_told}
 use Rattle.kdf_job.specs.SlotLines.{begins, ends, lines_from, place_behind, pool_lines, rest_of_slot, slot_lines}
@@ -54,9 +57,11 @@ unfolding read_line
 told_slots n d [] none = refl
 told_slots n d (line ∷ ls) none = step (told_at d.place line) (λ (e : Draft). told_slots (n + 1) e ls) none
   where
-    taken : (form : Form) (fault : Option JobFault) → ((e : Draft) → fault_from (n + 1) e ls ≡ None → slots_told (draft_of e ls) ≡ e.slots ++ slots_from e.place e.slot ls)
+    taken : (form : Form) (fault : Option JobFault)
+        → ((e : Draft) → fault_from (n + 1) e ls ≡ None → slots_told (draft_of e ls) ≡ e.slots ++ slots_from e.place e.slot ls)
         → behind_line n (or_fault form d fault) (λ e. fault_from (n + 1) e ls) ≡ None
-        → slots_told (draft_of (or_same d (or_fault form d fault)) ls) ≡ d.slots ++ (ended form d.slot ++ slots_from (behind form) (next_slot form d.place d.slot) ls)
+        → slots_told (draft_of (or_same d (or_fault form d fault)) ls)
+        ≡ d.slots ++ (ended form d.slot ++ slots_from (behind form) (next_slot form d.place d.slot) ls)
     taken form (Some fault) rest none = absurd cc
     taken form None rest none =
         rest (with_line form d) none
@@ -101,7 +106,8 @@ slot_after_rest : (place : Place) (slot : Option SlotDraft) (ls : List (List ℕ
 slot_after_rest place slot [] = refl
 slot_after_rest place slot (line ∷ ls) = step (told_at place line) refl (λ (at : Place) (s : Option SlotDraft). slot_after_rest at s ls)
   where
-    step : (r : Result Form JobFault) → told_at place line ≡ r → ((at : Place) (s : Option SlotDraft) → slot_after at s (rest_of_slot at ls) ≡ slot_within at s ls)
+    step : (r : Result Form JobFault) → told_at place line ≡ r
+        → ((at : Place) (s : Option SlotDraft) → slot_after at s (rest_of_slot at ls) ≡ slot_within at s ls)
         → slot_after place slot (cond (ends r) [] (line ∷ rest_of_slot (place_behind place r) ls)) ≡ within_line place slot r (λ at s. slot_within at s ls)
     step (Err fault) e rest =
         ap (λ (r : Result Form JobFault). after_line place slot r (λ at s. slot_after at s (rest_of_slot place ls))) e ∙ rest place slot
@@ -109,7 +115,8 @@ slot_after_rest place slot (line ∷ ls) = step (told_at place line) refl (λ (a
     step (Ok APool) e rest = refl
     step (Ok ASchedule) e rest = refl
     step (Ok form) e rest =
-        ap (λ (r : Result Form JobFault). after_line place slot r (λ at s. slot_after at s (rest_of_slot (behind form) ls))) e ∙ rest (behind form) (next_slot form place slot)
+        ap (λ (r : Result Form JobFault). after_line place slot r (λ at s. slot_after at s (rest_of_slot (behind form) ls))) e
+        ∙ rest (behind form) (next_slot form place slot)
 
 -- ---- the slot of a number among those that lines tell
 
@@ -126,7 +133,8 @@ abbrev IsAway : ℕ → Place → Type 0
 IsAway p (BehindSlot q) = (q == p) ≡ false
 IsAway p _ = Unit {0}
 
-not_found : (p : ℕ) (slot : Option SlotDraft) (ss : List SlotJob) → IsOther p slot → find (is_slot p) (option_to_list (option_map slot_of slot) ++ ss) ≡ find (is_slot p) ss
+not_found : (p : ℕ) (slot : Option SlotDraft) (ss : List SlotJob) → IsOther p slot → find (is_slot p) (option_to_list (option_map slot_of slot) ++ ss)
+    ≡ find (is_slot p) ss
 not_found p None ss other = refl
 not_found p (Some s) ss other = rw other refl
 
@@ -185,8 +193,10 @@ inside p place s [] away is = rw is refl
 inside p place s (line ∷ ls) away is = step (told_at place line) refl (λ (at : Place) (t : SlotDraft). inside p at t ls)
   where
     step : (r : Result Form JobFault) → told_at place line ≡ r
-        → ((at : Place) (t : SlotDraft) → (IsBehindSlot at → ⊥) → (t.p == p) ≡ true → find (is_slot p) (slots_from at (Some t) ls) ≡ option_map slot_of (slot_within at (Some t) ls))
-        → find (is_slot p) (told_line place (Some s) r (λ at t. slots_from at t ls)) ≡ option_map slot_of (within_line place (Some s) r (λ at t. slot_within at t ls))
+        → ((at : Place) (t : SlotDraft) → (IsBehindSlot at → ⊥) → (t.p == p) ≡ true → find (is_slot p) (slots_from at (Some t) ls) ≡ option_map slot_of
+        (slot_within at (Some t) ls))
+        → find (is_slot p) (told_line place (Some s) r (λ at t. slots_from at t ls)) ≡ option_map slot_of
+        (within_line place (Some s) r (λ at t. slot_within at t ls))
     step (Err fault) e rest = rest place s away is
     step (Ok (ASlot q)) e rest = read_stays p q s ls is
     step (Ok APool) e rest = ap (find (is_slot p)) (in_pool s ls) ∙ rw is refl
@@ -231,12 +241,15 @@ outside p place slot (line ∷ ls) other away = step (told_at place line) refl (
   where
     picked : (q : ℕ) (b : Bool) → (q == p) ≡ b
         → ((at : Place) (s : Option SlotDraft) → IsOther p s → IsAway p at → find (is_slot p) (slots_from at s ls) ≡ slot_of_lines p (lines_from p at ls))
-        → find (is_slot p) (slots_from (BehindSlot q) (option_map (tells (ASlot q)) slot) ls) ≡ slot_of_lines p (cond b (line ∷ rest_of_slot (BehindSlot p) ls) (lines_from p (BehindSlot q) ls))
+        → find (is_slot p) (slots_from (BehindSlot q) (option_map (tells (ASlot q)) slot) ls) ≡ slot_of_lines p
+        (cond b (line ∷ rest_of_slot (BehindSlot p) ls) (lines_from p (BehindSlot q) ls))
     picked q true e rest =
         subst
-        (λ (x : ℕ). find (is_slot p) (slots_from (BehindSlot x) (option_map (tells (ASlot x)) slot) ls) ≡ slot_of_lines p (line ∷ rest_of_slot (BehindSlot p) ls))
+        (λ (x : ℕ). find (is_slot p) (slots_from (BehindSlot x) (option_map (tells (ASlot x)) slot) ls) ≡ slot_of_lines p
+        (line ∷ rest_of_slot (BehindSlot p) ls))
         (sym (eqb-true q p e))
-        (begun p (option_map (tells (ASlot p)) slot) ls (other_still p (ASlot p) slot other) ∙ ap (option_map slot_of) (sym (slot_after_rest (BehindSlot p) None ls)))
+        (begun p (option_map (tells (ASlot p)) slot) ls (other_still p (ASlot p) slot other)
+        ∙ ap (option_map slot_of) (sym (slot_after_rest (BehindSlot p) None ls)))
     picked q false e rest = rest (BehindSlot q) (option_map (tells (ASlot q)) slot) (other_still p (ASlot q) slot other) e
 
     step : (r : Result Form JobFault) → told_at place line ≡ r
@@ -252,7 +265,8 @@ outside p place slot (line ∷ ls) other away = step (told_at place line) refl (
 
 -- ---- the slot of a job
 
-found_shared : (p : ℕ) (pool : List (ℕ × Kind)) (ss : List SlotJob) → find (is_slot p) (map (with_pool pool) ss) ≡ option_map (with_pool pool) (find (is_slot p) ss)
+found_shared : (p : ℕ) (pool : List (ℕ × Kind)) (ss : List SlotJob) → find (is_slot p) (map (with_pool pool) ss) ≡ option_map (with_pool pool)
+    (find (is_slot p) ss)
 found_shared p pool [] = refl
 found_shared p pool (s ∷ ss) = step (s.p == p) (found_shared p pool ss)
   where
@@ -261,7 +275,8 @@ found_shared p pool (s ∷ ss) = step (s.p == p) (found_shared p pool ss)
     step true rest = refl
     step false rest = rest
 
-slot_told : (p : ℕ) (bytes : List ℕ) → job_fault bytes ≡ None → find (is_slot p) (job bytes).slots ≡ option_map (with_pool (lent_of_lines (pool_lines bytes))) (slot_of_lines p (slot_lines p bytes))
+slot_told : (p : ℕ) (bytes : List ℕ) → job_fault bytes ≡ None → find (is_slot p) (job bytes).slots ≡ option_map (with_pool (lent_of_lines (pool_lines bytes)))
+    (slot_of_lines p (slot_lines p bytes))
 unfolding job job_fault slot_lines
 slot_told p bytes none =
     let d = draft_of blank (lines bytes) in
@@ -270,7 +285,8 @@ slot_told p bytes none =
     ∙ ap (λ (o : Option SlotJob). option_map (with_pool (lent_of_lines (pool_lines bytes))) o)
     (ap (find (is_slot p)) (told_slots 1 blank (lines bytes) none) ∙ outside p First None (lines bytes) (tt {0}) (tt {0}))
 
-pub slots_told_alike : (one other : List ℕ) (p : ℕ) → job_fault one ≡ None → job_fault other ≡ None → slot_lines p one ≡ slot_lines p other → pool_lines one ≡ pool_lines other
+pub slots_told_alike : (one other : List ℕ) (p : ℕ) → job_fault one ≡ None → job_fault other ≡ None → slot_lines p one ≡ slot_lines p other
+    → pool_lines one ≡ pool_lines other
     → find (λ (s : SlotJob). s.p == p) (job one).slots ≡ find (λ (s : SlotJob). s.p == p) (job other).slots
 slots_told_alike one other p here there same common =
     slot_told p one here

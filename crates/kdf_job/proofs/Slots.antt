@@ -21,7 +21,8 @@ ds devices = map (λ (x : JobDevice). x.d) devices
 
 pub numbers_last : (front : List SlotJob) (s : SlotJob) → numbers_of (front ++ s ∷ []) ≡ numbers_of front ++ ds s.devices
 numbers_last front s =
-    ap (λ (xs : List JobDevice). ds xs) (flat_map-append (λ (x : SlotJob). x.devices) front (s ∷ []) ∙ ap (λ (xs : List JobDevice). flat_map (λ (x : SlotJob). x.devices) front ++ xs) (append-nil s.devices))
+    ap (λ (xs : List JobDevice). ds xs) (flat_map-append (λ (x : SlotJob). x.devices) front (s ∷ [])
+    ∙ ap (λ (xs : List JobDevice). flat_map (λ (x : SlotJob). x.devices) front ++ xs) (append-nil s.devices))
     ∙ map-append (λ (x : JobDevice). x.d) (flat_map (λ (x : SlotJob). x.devices) front) s.devices
 
 pub words_last : (front : List SlotJob) (s : SlotJob) → words_in (front ++ s ∷ []) ≡ words_in front + s.size
@@ -35,7 +36,8 @@ all_front : {X : Type 0} (P : X → Type 0) (xs : List X) (x : X) → All P (xs 
 all_front P xs x all = λ k d lt. subst P (get_or_append_left xs (x ∷ []) d k lt) (all k d (let n = length-append xs (x ∷ []) in omega arith))
 
 -- another slot in place of the last
-pub slots_changed : (front : List SlotJob) (s t : SlotJob) → AreTold (front ++ s ∷ []) → t.p ≡ s.p → t.size ≡ s.size → IsSlot t → IsDistinct nat_eq (numbers_of (front ++ t ∷ []))
+pub slots_changed : (front : List SlotJob) (s t : SlotJob) → AreTold (front ++ s ∷ []) → t.p ≡ s.p → t.size ≡ s.size → IsSlot t
+    → IsDistinct nat_eq (numbers_of (front ++ t ∷ []))
     → AreTold (front ++ t ∷ [])
 slots_changed front s t was p size slot apart = record {
   each = All-push IsSlot front t (all_front IsSlot front s was.each) slot;
@@ -47,7 +49,8 @@ slots_changed front s t was p size slot apart = record {
 pub numbers_same : (front : List SlotJob) (s t : SlotJob) → ds t.devices ≡ ds s.devices → numbers_of (front ++ t ∷ []) ≡ numbers_of (front ++ s ∷ [])
 numbers_same front s t e = numbers_last front t ∙ ap (λ (xs : List ℕ). numbers_of front ++ xs) e ∙ sym (numbers_last front s)
 
-pub numbers_more : (front : List SlotJob) (s t : SlotJob) (n : ℕ) → ds t.devices ≡ ds s.devices ++ n ∷ [] → numbers_of (front ++ t ∷ []) ≡ numbers_of (front ++ s ∷ []) ++ n ∷ []
+pub numbers_more : (front : List SlotJob) (s t : SlotJob) (n : ℕ) → ds t.devices ≡ ds s.devices ++ n ∷ []
+    → numbers_of (front ++ t ∷ []) ≡ numbers_of (front ++ s ∷ []) ++ n ∷ []
 numbers_more front s t n e =
     numbers_last front t ∙ ap (λ (xs : List ℕ). numbers_of front ++ xs) e ∙ sym (append_assoc (numbers_of front) (ds s.devices) (n ∷ []))
     ∙ ap (λ (xs : List ℕ). xs ++ n ∷ []) (sym (numbers_last front s))
@@ -70,7 +73,8 @@ slots_first t slot none = record {
   apart = subst (IsDistinct nat_eq) (sym (numbers_last [] t ∙ ap (λ (xs : List JobDevice). ds xs) none)) (tt {0});
 }
 
-pub slots_more : (front : List SlotJob) (s t : SlotJob) → AreTold (front ++ s ∷ []) → s.p < t.p → IsSlot t → t.devices ≡ [] → words_in (front ++ s ∷ []) + t.size ≤ 31744
+pub slots_more : (front : List SlotJob) (s t : SlotJob) → AreTold (front ++ s ∷ []) → s.p < t.p → IsSlot t → t.devices ≡ []
+    → words_in (front ++ s ∷ []) + t.size ≤ 31744
     → AreTold ((front ++ s ∷ []) ++ t ∷ [])
 slots_more front s t was p slot none fits =
     let all = front ++ s ∷ [] in

@@ -1,5 +1,6 @@
 -- What is kept stays true with each line more.
-use Rattle.std.proofs.Common.{◌≡◌, ℕ, ◌+◌, ◌<◌, ◌≤◌, ◌%◌, false, List, [], ◌∷◌, ◌++◌, length, Option, Some, None, refl, sym, ap, subst, ◌∙◌, arith, append-nil, length-append}
+use Rattle.std.proofs.Common.{◌≡◌, ℕ, ◌+◌, ◌<◌, ◌≤◌, ◌%◌, false, List, [], ◌∷◌, ◌++◌, length, Option, Some, None, refl, sym, ap, subst, ◌∙◌, arith, append-nil}
+use Rattle.std.proofs.Common.{length-append}
 use Rattle.std.specs.Prelude.{nat_eq}
 use Rattle.std.specs.List.{All, IsDistinct, list_any}
 use Rattle.std.proofs.lemmas.Bool.Decides.{nat_tests}
@@ -30,16 +31,19 @@ none_owned : (d : Draft) → d.pool ≡ [] → AreTold (slots_told d) → IsDist
 none_owned d none told = subst (IsDistinct nat_eq) (sym (told_alone d none)) told.apart
 
 -- the slot in which the line stands is another, with the same devices
-pub slot_told : (words : ℕ) (numbers : List ℕ) (d e : Draft) (s t : SlotDraft) → IsKept words numbers d → d.pool ≡ [] → e.pool ≡ [] → e.slots ≡ d.slots → d.slot ≡ Some s → e.slot ≡ Some t → e.events ≡ d.events
+pub slot_told : (words : ℕ) (numbers : List ℕ) (d e : Draft) (s t : SlotDraft) → IsKept words numbers d → d.pool ≡ [] → e.pool ≡ [] → e.slots ≡ d.slots
+    → d.slot ≡ Some s → e.slot ≡ Some t → e.events ≡ d.events
     → t.p ≡ s.p → t.size ≡ s.size → ds (all_devices t) ≡ ds (all_devices s) → IsSlot (slot_of t) → IsPlaced e.place e.slot → IsKept words numbers e
 slot_told words numbers d e s t was none still slots old new events p size same slot placed =
     let before : slots_told d ≡ d.slots ++ slot_of s ∷ [] = rw old refl in
     let after : slots_told e ≡ d.slots ++ slot_of t ∷ [] = rw (slots, new) refl in
     let sound : AreTold (d.slots ++ slot_of s ∷ []) = subst AreTold before was.slots in
     let ns : numbers_of (d.slots ++ slot_of t ∷ []) ≡ numbers_of (d.slots ++ slot_of s ∷ []) = numbers_same d.slots (slot_of s) (slot_of t) same in
-    let told : AreTold (slots_told e) = subst AreTold (sym after) (slots_changed d.slots (slot_of s) (slot_of t) sound p size slot (subst (IsDistinct nat_eq) (sym ns) sound.apart)) in
+    let told : AreTold (slots_told e) = subst AreTold (sym after)
+    (slots_changed d.slots (slot_of s) (slot_of t) sound p size slot (subst (IsDistinct nat_eq) (sym ns) sound.apart)) in
     record {
-      sum = was.sum ∙ ap words_in before ∙ words_last d.slots (slot_of s) ∙ ap (λ (n : ℕ). words_in d.slots + n) (sym size) ∙ sym (words_last d.slots (slot_of t)) ∙ ap words_in (sym after);
+      sum = was.sum ∙ ap words_in before ∙ words_last d.slots (slot_of s) ∙ ap (λ (n : ℕ). words_in d.slots + n) (sym size)
+          ∙ sym (words_last d.slots (slot_of t)) ∙ ap words_in (sym after);
       all = was.all ∙ told_alone d none ∙ ap numbers_of before ∙ sym ns ∙ ap numbers_of (sym after) ∙ sym (told_alone e still);
       slots = told;
       lent = none_lent e.pool still;
@@ -51,20 +55,26 @@ slot_told words numbers d e s t was none still slots old new events p size same 
     }
 
 -- and with a device more
-pub device_told : (words n : ℕ) (numbers : List ℕ) (d e : Draft) (s t : SlotDraft) → IsKept words numbers d → d.pool ≡ [] → e.pool ≡ [] → e.slots ≡ d.slots → d.slot ≡ Some s → e.slot ≡ Some t → e.events ≡ d.events
-    → t.p ≡ s.p → t.size ≡ s.size → ds (all_devices t) ≡ ds (all_devices s) ++ n ∷ [] → list_any (nat_eq n) (numbers_of (slots_told d)) ≡ false → IsSlot (slot_of t) → IsPlaced e.place e.slot
+pub device_told : (words n : ℕ) (numbers : List ℕ) (d e : Draft) (s t : SlotDraft) → IsKept words numbers d → d.pool ≡ [] → e.pool ≡ [] → e.slots ≡ d.slots
+    → d.slot ≡ Some s → e.slot ≡ Some t → e.events ≡ d.events
+    → t.p ≡ s.p → t.size ≡ s.size → ds (all_devices t) ≡ ds (all_devices s) ++ n ∷ [] → list_any (nat_eq n) (numbers_of (slots_told d)) ≡ false
+    → IsSlot (slot_of t) → IsPlaced e.place e.slot
     → IsKept words (numbers ++ n ∷ []) e
 device_told words n numbers d e s t was none still slots old new events p size more free slot placed =
     let before : slots_told d ≡ d.slots ++ slot_of s ∷ [] = rw old refl in
     let after : slots_told e ≡ d.slots ++ slot_of t ∷ [] = rw (slots, new) refl in
     let sound : AreTold (d.slots ++ slot_of s ∷ []) = subst AreTold before was.slots in
     let ns : numbers_of (d.slots ++ slot_of t ∷ []) ≡ numbers_of (d.slots ++ slot_of s ∷ []) ++ n ∷ [] = numbers_more d.slots (slot_of s) (slot_of t) n more in
-    let open_ : list_any (nat_eq n) (numbers_of (d.slots ++ slot_of s ∷ [])) ≡ false = subst (λ (xs : List SlotJob). list_any (nat_eq n) (numbers_of xs) ≡ false) before free in
+    let open_ : list_any (nat_eq n) (numbers_of (d.slots ++ slot_of s ∷ [])) ≡ false =
+    subst (λ (xs : List SlotJob). list_any (nat_eq n) (numbers_of xs) ≡ false) before free in
     let told : AreTold (slots_told e) =
-    subst AreTold (sym after) (slots_changed d.slots (slot_of s) (slot_of t) sound p size slot (subst (IsDistinct nat_eq) (sym ns) (apart_more _ n sound.apart open_))) in
+    subst AreTold (sym after) (slots_changed d.slots (slot_of s) (slot_of t) sound p size slot
+    (subst (IsDistinct nat_eq) (sym ns) (apart_more _ n sound.apart open_))) in
     record {
-      sum = was.sum ∙ ap words_in before ∙ words_last d.slots (slot_of s) ∙ ap (λ (m : ℕ). words_in d.slots + m) (sym size) ∙ sym (words_last d.slots (slot_of t)) ∙ ap words_in (sym after);
-      all = ap (λ (xs : List ℕ). xs ++ n ∷ []) (was.all ∙ told_alone d none ∙ ap numbers_of before) ∙ sym ns ∙ ap numbers_of (sym after) ∙ sym (told_alone e still);
+      sum = was.sum ∙ ap words_in before ∙ words_last d.slots (slot_of s) ∙ ap (λ (m : ℕ). words_in d.slots + m) (sym size)
+          ∙ sym (words_last d.slots (slot_of t)) ∙ ap words_in (sym after);
+      all = ap (λ (xs : List ℕ). xs ++ n ∷ []) (was.all ∙ told_alone d none ∙ ap numbers_of before) ∙ sym ns ∙ ap numbers_of (sym after)
+          ∙ sym (told_alone e still);
       slots = told;
       lent = none_lent e.pool still;
       owned = none_owned e still told;
@@ -87,7 +97,8 @@ new_is_slot p n few least most groups = record {
   lent = λ k d lt. absurd (omega arith);
 }
 
-begun_slots : (d : Draft) (slot : Option SlotDraft) (p n : ℕ) → d.slot ≡ slot → AreTold (slots_told d) → IsBegun d.slots d.slot → slot_fault p d.slot ≡ None → p ≤ 3 → 32 ≤ n → n ≤ 8192
+begun_slots : (d : Draft) (slot : Option SlotDraft) (p n : ℕ) → d.slot ≡ slot → AreTold (slots_told d) → IsBegun d.slots d.slot → slot_fault p d.slot ≡ None
+    → p ≤ 3 → 32 ≤ n → n ≤ 8192
     → n % 32 ≡ 0 → words_in (slots_told d) + n ≤ 31744 → AreTold (slots_told d ++ slot_of (new_slot p n) ∷ [])
 begun_slots d None p n is was begun above few least most groups fits =
     let none : d.slots ≡ [] = rw is at begun in
@@ -95,9 +106,11 @@ begun_slots d None p n is was begun above few least most groups fits =
 begun_slots d (Some s) p n is was begun above few least most groups fits =
     let after : slots_told d ≡ d.slots ++ slot_of s ∷ [] = rw is refl in
     let lt : s.p < p = let h : slot_fault p (Some s) ≡ None = rw is at above in grind (arith, nat_tests) in
-    rw after (slots_more d.slots (slot_of s) (slot_of (new_slot p n)) (subst AreTold after was) lt (new_is_slot p n few least most groups) refl (rw after at fits))
+    rw after (slots_more d.slots (slot_of s) (slot_of (new_slot p n)) (subst AreTold after was) lt (new_is_slot p n few least most groups) refl
+    (rw after at fits))
 
-pub store_told : (words p n : ℕ) (numbers : List ℕ) (d e : Draft) → IsKept words numbers d → d.pool ≡ [] → e.pool ≡ [] → e.slots ≡ slots_told d → e.slot ≡ Some (new_slot p n) → e.events ≡ d.events → slot_fault p d.slot ≡ None
+pub store_told : (words p n : ℕ) (numbers : List ℕ) (d e : Draft) → IsKept words numbers d → d.pool ≡ [] → e.pool ≡ [] → e.slots ≡ slots_told d
+    → e.slot ≡ Some (new_slot p n) → e.events ≡ d.events → slot_fault p d.slot ≡ None
     → p ≤ 3 → 32 ≤ n → n ≤ 8192 → n % 32 ≡ 0 → words + n ≤ 31744 → IsPlaced e.place e.slot → IsKept (words + n) numbers e
 store_told words p n numbers d e was none still slots new events above few least most groups fits placed =
     let after : slots_told e ≡ slots_told d ++ slot_of (new_slot p n) ∷ [] = rw (slots, new) refl in
@@ -105,7 +118,8 @@ store_told words p n numbers d e was none still slots new events above few least
     let told : AreTold (slots_told e) = subst AreTold (sym after) (begun_slots d d.slot p n refl was.slots was.begun above few least most groups room) in
     record {
       sum = ap (λ (m : ℕ). m + n) was.sum ∙ sym (words_last (slots_told d) (slot_of (new_slot p n))) ∙ ap words_in (sym after);
-      all = was.all ∙ told_alone d none ∙ sym (append-nil (numbers_of (slots_told d))) ∙ sym (numbers_last (slots_told d) (slot_of (new_slot p n))) ∙ ap numbers_of (sym after) ∙ sym (told_alone e still);
+      all = was.all ∙ told_alone d none ∙ sym (append-nil (numbers_of (slots_told d))) ∙ sym (numbers_last (slots_told d) (slot_of (new_slot p n)))
+          ∙ ap numbers_of (sym after) ∙ sym (told_alone e still);
       slots = told;
       lent = none_lent e.pool still;
       owned = none_owned e still told;

@@ -12,8 +12,12 @@ use Rattle.kdf_schedule.specs.Events.{event}
 use Rattle.kdf_job.specs.declared.fault.JobFault.{JobFault}
 use Rattle.kdf_job.specs.declared.fault.JobFault.TheVariants.{Header}
 use Rattle.kdf_job.specs.declared.place.Place.{Place}
-use Rattle.kdf_job.specs.declared.place.Place.TheVariants.{First, BehindHeader, BehindSlot, BehindStore, InDeck, BehindDeck, BehindService, BehindDevice, BehindShow, BehindPool, InSchedule, BehindEnd}
-use Rattle.kdf_job.specs.Forms.{Form, AHeader, ASlot, AStore, ADeck, ADeckLine, AnEndDeck, AService, ADevice, AMedium, AShow, APool, APoolDevice, ASchedule, AnEvent, AnEndJob, Told, told, first_told, addresses, alone, described, device_named, device_or_end, device_words, device_line, kind_named, medium_line, no_medium, number_line, numbered, of_event, or_bad, pooled, service_or_device, show_line, slot_ends, slot_line, told_at}
+use Rattle.kdf_job.specs.declared.place.Place.TheVariants.{First, BehindHeader, BehindSlot, BehindStore, InDeck, BehindDeck, BehindService, BehindDevice}
+use Rattle.kdf_job.specs.declared.place.Place.TheVariants.{BehindShow, BehindPool, InSchedule, BehindEnd}
+use Rattle.kdf_job.specs.Forms.{Form, AHeader, ASlot, AStore, ADeck, ADeckLine, AnEndDeck, AService, ADevice, AMedium, AShow, APool, APoolDevice, ASchedule}
+use Rattle.kdf_job.specs.Forms.{AnEvent, AnEndJob, Told, told, first_told, addresses, alone, described, device_named, device_or_end, device_words, device_line}
+use Rattle.kdf_job.specs.Forms.{kind_named, medium_line, no_medium, number_line, numbered, of_event, or_bad, pooled, service_or_device, show_line, slot_ends}
+use Rattle.kdf_job.specs.Forms.{slot_line, told_at}
 
 abbrev pub IsBehindSlot : Place → Type 0
 IsBehindSlot (BehindSlot p) = Unit {0}

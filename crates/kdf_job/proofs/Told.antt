@@ -1,5 +1,6 @@
 -- What is kept stays true with a line of each form that tells of a slot.
-use Rattle.std.proofs.Common.{◌≡◌, ℕ, ◌+◌, ◌<◌, ◌≤◌, ◌%◌, Bool, true, false, cond, List, [], ◌∷◌, ◌++◌, length, Option, Some, None, Result, Ok, Err, refl, sym, ap, subst, ◌∙◌, arith, length-append}
+use Rattle.std.proofs.Common.{◌≡◌, ℕ, ◌+◌, ◌<◌, ◌≤◌, ◌%◌, Bool, true, false, cond, List, [], ◌∷◌, ◌++◌, length, Option, Some, None, Result, Ok, Err, refl, sym}
+use Rattle.std.proofs.Common.{ap, subst, ◌∙◌, arith, length-append}
 use Rattle.std.specs.Prelude.{codes, is_none, is_some, nat_eq}
 use Rattle.std.specs.Option.{option_map, option_to_list}
 use Rattle.std.specs.List.{All, list_any}
@@ -19,7 +20,8 @@ use Rattle.kdf_job.specs.declared.line_error.LineError.TheVariants.{Fault, Memor
 use Rattle.kdf_job.specs.declared.place.Place.{Place}
 use Rattle.kdf_job.specs.declared.place.Place.TheVariants.{BehindSlot, InDeck}
 use Rattle.kdf_job.specs.Adding.{IsChecked}
-use Rattle.kdf_job.specs.Draft.{SlotDraft, Draft, all_devices, device_fault, fault_of, medium_fault, new_slot, number_at, numbers_told, show_fault, slots_told, store_fault, tells, with_line, with_line_of_medium, words_in}
+use Rattle.kdf_job.specs.Draft.{SlotDraft, Draft, all_devices, device_fault, fault_of, medium_fault, new_slot, number_at, numbers_told, show_fault, slots_told}
+use Rattle.kdf_job.specs.Draft.{store_fault, tells, with_line, with_line_of_medium, words_in}
 use Rattle.kdf_job.specs.Forms.{Form, ADeckLine, ADevice, AMedium, AService, AShow, AStore, told_at}
 use Rattle.kdf_job.specs.Job.{JobDevice, SlotJob}
 use Rattle.kdf_job.specs.Kept.{IsKept, IsPlaced, IsUntold}
@@ -35,7 +37,8 @@ use Rattle.kdf_job.proofs.Steps.{current_slot, device_told, slot_told, store_tol
 
 -- a form without a fault
 pub taken : (form : Form) (room : ℕ) (old new : ReadDraft) → fault_of form (shown_draft old) ≡ None → shown_draft new ≡ with_line form (shown_draft old)
-    → IsKept new.words new.numbers.items (with_line form (shown_draft old)) → weight (with_line form (shown_draft old)) ≤ weight (shown_draft old) + room → Taken (Ok form) room old new
+    → IsKept new.words new.numbers.items (with_line form (shown_draft old)) → weight (with_line form (shown_draft old)) ≤ weight (shown_draft old) + room
+    → Taken (Ok form) room old new
 taken form room old new faultless is kept grown = record {
   is = ap (or_fault form (shown_draft old)) faultless ∙ ap Ok (sym is);
   sound = subst (IsKept new.words new.numbers.items) (sym is) kept;
@@ -47,11 +50,13 @@ some_slot None h = absurd cc
 some_slot (Some s) h = (s, refl)
 
 -- ---- `SHOW a b`
-show_kept : (words : ℕ) (numbers : List ℕ) (d : Draft) (s : SlotDraft) (a b : ℕ) → IsKept words numbers d → d.pool ≡ [] → d.slot ≡ Some s → show_fault a b s.size ≡ None → IsKept words numbers (with_line (AShow a b) d)
+show_kept : (words : ℕ) (numbers : List ℕ) (d : Draft) (s : SlotDraft) (a b : ℕ) → IsKept words numbers d → d.pool ≡ [] → d.slot ≡ Some s
+    → show_fault a b s.size ≡ None → IsKept words numbers (with_line (AShow a b) d)
 show_kept words numbers d s a b was none is faultless =
     let now = current_slot words numbers d s was is in
     let range : IsShow s.size (a, b) = show_range a b s.size faultless in
-    slot_told words numbers d (with_line (AShow a b) d) s (tells (AShow a b) s) was none none refl is (ap (option_map (tells (AShow a b))) is) refl refl refl refl
+    slot_told words numbers d (with_line (AShow a b) d) s (tells (AShow a b) s) was none none refl is (ap (option_map (tells (AShow a b))) is) refl refl refl
+    refl
     (record {
       number = now.number;
       least = now.least;
@@ -67,8 +72,10 @@ show_kept words numbers d s a b was none is faultless =
     show_range : (a b size : ℕ) → show_fault a b size ≡ None → IsShow size (a, b)
     show_range a b size h = grind (arith, nat_tests)
 
-pub show_takes : (a b : ℕ) (old new : ReadDraft) → IsSound old → (shown_draft old).pool ≡ [] → is_some (shown_draft old).slot ≡ true → fault_of (AShow a b) (shown_draft old) ≡ None
-    → shown_draft new ≡ with_line (AShow a b) (shown_draft old) → new.words ≡ old.words → new.numbers.items ≡ old.numbers.items → Taken (Ok (AShow a b)) 1 old new
+pub show_takes : (a b : ℕ) (old new : ReadDraft) → IsSound old → (shown_draft old).pool ≡ [] → is_some (shown_draft old).slot ≡ true
+    → fault_of (AShow a b) (shown_draft old) ≡ None
+    → shown_draft new ≡ with_line (AShow a b) (shown_draft old) → new.words ≡ old.words → new.numbers.items ≡ old.numbers.items
+    → Taken (Ok (AShow a b)) 1 old new
 show_takes a b old new sound none there faultless shown words numbers =
     let s = some_slot (shown_draft old).slot there in
     taken (AShow a b) 1 old new faultless shown
@@ -76,11 +83,13 @@ show_takes a b old new sound none there faultless shown words numbers =
     (let e = ap kept_length s.1 in let f = ap kept_length (ap (option_map (tells (AShow a b))) s.1) in omega arith)
 
 -- ---- a line of a deck
-deck_kept : (words : ℕ) (numbers : List ℕ) (d : Draft) (s : SlotDraft) (line : List ℕ) → IsKept words numbers d → d.pool ≡ [] → d.slot ≡ Some s → length s.deck + length line + 1 ≤ 268435456
+deck_kept : (words : ℕ) (numbers : List ℕ) (d : Draft) (s : SlotDraft) (line : List ℕ) → IsKept words numbers d → d.pool ≡ [] → d.slot ≡ Some s
+    → length s.deck + length line + 1 ≤ 268435456
     → IsKept words numbers (with_line (ADeckLine line) d)
 deck_kept words numbers d s line was none is fits =
     let now = current_slot words numbers d s was is in
-    slot_told words numbers d (with_line (ADeckLine line) d) s (tells (ADeckLine line) s) was none none refl is (ap (option_map (tells (ADeckLine line))) is) refl refl refl refl
+    slot_told words numbers d (with_line (ADeckLine line) d) s (tells (ADeckLine line) s) was none none refl is (ap (option_map (tells (ADeckLine line))) is)
+    refl refl refl refl
     (record {
       number = now.number;
       least = now.least;
@@ -97,7 +106,8 @@ pub deck_told : (line : List ℕ) → is_text (codes "ENDDECK") line ≡ false �
 deck_told line e = rw e refl
 
 pub deck_takes : (line : List ℕ) (old new : ReadDraft) → IsSound old → old.place ≡ InDeck → weight (shown_draft old) + length line ≤ 268435456
-    → shown_draft new ≡ with_line (ADeckLine line) (shown_draft old) → new.words ≡ old.words → new.numbers.items ≡ old.numbers.items → Taken (Ok (ADeckLine line)) (length line + 1) old new
+    → shown_draft new ≡ with_line (ADeckLine line) (shown_draft old) → new.words ≡ old.words → new.numbers.items ≡ old.numbers.items
+    → Taken (Ok (ADeckLine line)) (length line + 1) old new
 deck_takes line old new sound place fits shown words numbers =
     let there : IsPlaced InDeck (shown_draft old).slot = subst (λ (x : Place). IsPlaced x (shown_draft old).slot) place sound.placed in
     let none : (shown_draft old).pool ≡ [] = subst (λ (x : Place). IsUntold x (shown_draft old).pool) place sound.untold in
@@ -112,7 +122,8 @@ deck_takes line old new sound place fits shown words numbers =
     (omega arith)
 
 -- ---- `SERVICE`
-service_kept : (words : ℕ) (numbers : List ℕ) (d : Draft) (s : SlotDraft) → IsKept words numbers d → d.pool ≡ [] → d.slot ≡ Some s → IsKept words numbers (with_line AService d)
+service_kept : (words : ℕ) (numbers : List ℕ) (d : Draft) (s : SlotDraft) → IsKept words numbers d → d.pool ≡ [] → d.slot ≡ Some s
+    → IsKept words numbers (with_line AService d)
 service_kept words numbers d s was none is =
     let now = current_slot words numbers d s was is in
     slot_told words numbers d (with_line AService d) s (tells AService s) was none none refl is (ap (option_map (tells AService)) is) refl refl refl refl
@@ -128,7 +139,8 @@ service_kept words numbers d s was none is =
     })
     (rw is refl)
 
-pub service_takes : (old new : ReadDraft) → IsSound old → (shown_draft old).pool ≡ [] → is_some (shown_draft old).slot ≡ true → shown_draft new ≡ with_line AService (shown_draft old)
+pub service_takes : (old new : ReadDraft) → IsSound old → (shown_draft old).pool ≡ [] → is_some (shown_draft old).slot ≡ true
+    → shown_draft new ≡ with_line AService (shown_draft old)
     → new.words ≡ old.words → new.numbers.items ≡ old.numbers.items → Taken (Ok AService) 1 old new
 service_takes old new sound none there shown words numbers =
     let s = some_slot (shown_draft old).slot there in
@@ -137,7 +149,8 @@ service_takes old new sound none there shown words numbers =
     (let e = ap kept_length s.1 in let f = ap kept_length (ap (option_map (tells AService)) s.1) in omega arith)
 
 -- ---- `DEVICE d k`
-device_kept : (words : ℕ) (numbers : List ℕ) (d : Draft) (s : SlotDraft) (n : ℕ) (kind : Kind) (label : List ℕ) → IsKept words numbers d → d.pool ≡ [] → d.slot ≡ Some s → n ≤ 15
+device_kept : (words : ℕ) (numbers : List ℕ) (d : Draft) (s : SlotDraft) (n : ℕ) (kind : Kind) (label : List ℕ) → IsKept words numbers d → d.pool ≡ []
+    → d.slot ≡ Some s → n ≤ 15
     → list_any (nat_eq n) (numbers_told d) ≡ false → IsKept words (numbers ++ n ∷ []) (with_line (ADevice n kind label) d)
 device_kept words numbers d s n kind label was none is few free =
     let now = current_slot words numbers d s was is in
@@ -161,13 +174,15 @@ device_kept words numbers d s n kind label was none is few free =
 device_free : (n : ℕ) (kind : Kind) (label : List ℕ) (d : Draft) → device_fault n kind label d ≡ None → list_any (nat_eq n) (numbers_told d) ≡ false
 device_free n kind label d h = grind arith
 
-pub device_takes : (n : ℕ) (kind : Kind) (label : List ℕ) (old new : ReadDraft) → IsSound old → (shown_draft old).pool ≡ [] → is_some (shown_draft old).slot ≡ true → n ≤ 15
+pub device_takes : (n : ℕ) (kind : Kind) (label : List ℕ) (old new : ReadDraft) → IsSound old → (shown_draft old).pool ≡ []
+    → is_some (shown_draft old).slot ≡ true → n ≤ 15
     → fault_of (ADevice n kind label) (shown_draft old) ≡ None → shown_draft new ≡ with_line (ADevice n kind label) (shown_draft old) → new.words ≡ old.words
     → new.numbers.items ≡ old.numbers.items ++ n ∷ [] → Taken (Ok (ADevice n kind label)) 1 old new
 device_takes n kind label old new sound none there few faultless shown words numbers =
     let s = some_slot (shown_draft old).slot there in
     taken (ADevice n kind label) 1 old new faultless shown
-    (rw (words, numbers) (device_kept old.words old.numbers.items (shown_draft old) s.0 n kind label sound none s.1 few (device_free n kind label (shown_draft old) faultless)))
+    (rw (words, numbers) (device_kept old.words old.numbers.items (shown_draft old) s.0 n kind label sound none s.1 few
+    (device_free n kind label (shown_draft old) faultless)))
     (let e = ap kept_length s.1 in let f = ap kept_length (ap (option_map (tells (ADevice n kind label))) s.1) in omega arith)
 
 -- ---- a line of a medium
@@ -176,7 +191,8 @@ unfolding codes_in
 codes_length [] found e = let f : found ≡ [] = cc in rw f refl
 codes_length (byte ∷ text) found e = longer (code_of byte) (codes_in text) found (codes_length text) e
   where
-    longer : (code : Option ℕ) (more : Option (List ℕ)) (found : List ℕ) → ((cs : List ℕ) → more ≡ Some cs → length cs ≡ length text) → with_code code more ≡ Some found → length found ≡ length (byte ∷ text)
+    longer : (code : Option ℕ) (more : Option (List ℕ)) (found : List ℕ) → ((cs : List ℕ) → more ≡ Some cs → length cs ≡ length text)
+        → with_code code more ≡ Some found → length found ≡ length (byte ∷ text)
     longer None more found rest e = absurd cc
     longer (Some code) None found rest e = absurd cc
     longer (Some code) (Some cs) found rest e =
@@ -202,7 +218,8 @@ added_longer Mt marked codes x = record {
       omega arith;
 }
 
-codes_longer : (marked : Bool) (o : Option (List ℕ)) (x y : JobDevice) (n : ℕ) → ((codes : List ℕ) → o ≡ Some codes → length codes ≡ n) → with_codes marked o x ≡ Some y → IsLonger x y n
+codes_longer : (marked : Bool) (o : Option (List ℕ)) (x y : JobDevice) (n : ℕ) → ((codes : List ℕ) → o ≡ Some codes → length codes ≡ n)
+    → with_codes marked o x ≡ Some y → IsLonger x y n
 codes_longer marked None x y n many e = absurd cc
 codes_longer marked (Some codes) x y n many e =
     let what = added x.fixture.kind marked codes x in
@@ -224,7 +241,8 @@ same_numbers marked text front (Some x) some = found (with_medium marked text x)
     found None e some = absurd cc
     found (Some y) e some =
         let h = medium_longer marked text x y e in
-        map-append (λ (z : JobDevice). z.d) front (y ∷ []) ∙ ap (λ (n : ℕ). ds front ++ n ∷ []) h.same ∙ sym (map-append (λ (z : JobDevice). z.d) front (x ∷ []))
+        map-append (λ (z : JobDevice). z.d) front (y ∷ []) ∙ ap (λ (n : ℕ). ds front ++ n ∷ []) h.same
+        ∙ sym (map-append (λ (z : JobDevice). z.d) front (x ∷ []))
 
 little_longer : (marked : Bool) (text : List ℕ) (o : Option JobDevice) → is_none (with_line_of_medium marked text o) ≡ false
     → device_length (with_line_of_medium marked text o) ≤ device_length o + length text + 1
@@ -239,7 +257,8 @@ is_medium : (b : Bool) → cond b (Some BadMedium) None ≡ None → b ≡ false
 is_medium true h = absurd cc
 is_medium false h = refl
 
-medium_kept : (words : ℕ) (numbers : List ℕ) (d : Draft) (s : SlotDraft) (marked : Bool) (text : List ℕ) → IsKept words numbers d → d.pool ≡ [] → d.slot ≡ Some s
+medium_kept : (words : ℕ) (numbers : List ℕ) (d : Draft) (s : SlotDraft) (marked : Bool) (text : List ℕ) → IsKept words numbers d → d.pool ≡ []
+    → d.slot ≡ Some s
     → is_none (with_line_of_medium marked text s.device) ≡ false → IsKept words numbers (with_line (AMedium marked text) d)
 medium_kept words numbers d s marked text was none is some =
     let now = current_slot words numbers d s was is in
@@ -271,8 +290,10 @@ medium_taken marked text old new sound none there faultless shown words numbers 
     let n = little_longer marked text s.0.device some in
     omega arith)
 
-pub medium_takes : (marked : Bool) (text : List ℕ) (old new : ReadDraft) (r : Result (Unit {0}) LineError) → IsSound old → (shown_draft old).pool ≡ [] → is_some (shown_draft old).slot ≡ true
-    → IsChecked (medium_fault marked text (shown_draft old).slot) (with_line (AMedium marked text) (shown_draft old)) (shown_draft new) r → new.words ≡ old.words
+pub medium_takes : (marked : Bool) (text : List ℕ) (old new : ReadDraft) (r : Result (Unit {0}) LineError) → IsSound old → (shown_draft old).pool ≡ []
+    → is_some (shown_draft old).slot ≡ true
+    → IsChecked (medium_fault marked text (shown_draft old).slot) (with_line (AMedium marked text) (shown_draft old)) (shown_draft new) r
+    → new.words ≡ old.words
     → new.numbers.items ≡ old.numbers.items → Takes (Ok (AMedium marked text)) (length text + 2) old new r
 medium_takes marked text old new (Ok x) sound none there h words numbers = medium_taken marked text old new sound none there h.0 h.1 words numbers
 medium_takes marked text old new (Err (Fault fault)) sound none there h words numbers = ap (or_fault (AMedium marked text) (shown_draft old)) h
@@ -282,16 +303,19 @@ medium_takes marked text old new (Err Memory) sound none there h words numbers =
 store_sound : (n words : ℕ) (slots : List SlotJob) → words ≡ words_in slots → store_fault n slots ≡ None → (n % 32 ≡ 0) × (words + n ≤ 31744)
 store_sound n words slots sum h = grind (arith, nat_tests)
 
-store_kept : (words : ℕ) (numbers : List ℕ) (d : Draft) (p n : ℕ) → IsKept words numbers d → d.place ≡ BehindSlot p → 32 ≤ n → n ≤ 8192 → store_fault n (slots_told d) ≡ None
+store_kept : (words : ℕ) (numbers : List ℕ) (d : Draft) (p n : ℕ) → IsKept words numbers d → d.place ≡ BehindSlot p → 32 ≤ n → n ≤ 8192
+    → store_fault n (slots_told d) ≡ None
     → IsKept (words + n) numbers (with_line (AStore n) d)
 store_kept words numbers d p n was place least most faultless =
     let placed : IsPlaced (BehindSlot p) d.slot = subst (λ (x : Place). IsPlaced x d.slot) place was.placed in
     let fits = store_sound n words (slots_told d) was.sum faultless in
     let none : d.pool ≡ [] = subst (λ (x : Place). IsUntold x d.pool) place was.untold in
-    store_told words p n numbers d (with_line (AStore n) d) was none none refl (ap (λ (x : Place). Some (new_slot (number_at x) n)) place) refl placed.1 placed.0 least most fits.0 fits.1 refl
+    store_told words p n numbers d (with_line (AStore n) d) was none none refl (ap (λ (x : Place). Some (new_slot (number_at x) n)) place) refl placed.1
+    placed.0 least most fits.0 fits.1 refl
 
 pub store_takes : (p n : ℕ) (old new : ReadDraft) → IsSound old → old.place ≡ BehindSlot p → 32 ≤ n → n ≤ 8192 → fault_of (AStore n) (shown_draft old) ≡ None
-    → shown_draft new ≡ with_line (AStore n) (shown_draft old) → new.words ≡ old.words + n → new.numbers.items ≡ old.numbers.items → Taken (Ok (AStore n)) 1 old new
+    → shown_draft new ≡ with_line (AStore n) (shown_draft old) → new.words ≡ old.words + n → new.numbers.items ≡ old.numbers.items
+    → Taken (Ok (AStore n)) 1 old new
 store_takes p n old new sound place least most faultless shown words numbers =
     taken (AStore n) 1 old new faultless shown
     (rw (words, numbers) (store_kept old.words old.numbers.items (shown_draft old) p n sound place least most faultless))

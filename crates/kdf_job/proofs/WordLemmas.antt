@@ -9,7 +9,8 @@ number-more text front behind low high e =
     let last = words-some behind in
     rw (e, last.is) refl
 
-pub addresses-more : (text front last middle behind : List ℕ) → words text ≡ front ∷ words last → words last ≡ middle ∷ words behind → None ≡ two_addresses (words text)
+pub addresses-more : (text front last middle behind : List ℕ) → words text ≡ front ∷ words last → words last ≡ middle ∷ words behind
+    → None ≡ two_addresses (words text)
 addresses-more text front last middle behind one two =
     let end = words-some behind in
     rw (one, two, end.is) refl

@@ -1,5 +1,6 @@
 -- What the lines so far tell of a job, and what is wrong with a line after them.
-use Rattle.std.specs.Prelude.{ℕ, ◌+◌, ◌%◌, ◌==◌, ◌&&◌, not, nat_le, nat_lt, Bool, true, false, List, [], ◌∷◌, ◌++◌, length, map, fold, sum_by, Option, Some, None, is_none, if◌then◌else◌}
+use Rattle.std.specs.Prelude.{ℕ, ◌+◌, ◌%◌, ◌==◌, ◌&&◌, not, nat_le, nat_lt, Bool, true, false, List, [], ◌∷◌, ◌++◌, length, map, fold, sum_by, Option, Some}
+use Rattle.std.specs.Prelude.{None, is_none, if◌then◌else◌}
 use Rattle.std.specs.List.{list_any, flat_map}
 use Rattle.std.specs.Option.{option_map, option_to_list}
 use Rattle.kdf_text.specs.declared.lines.TheConstants.{LINE_END}
@@ -11,7 +12,8 @@ use Rattle.kdf_schedule.specs.Calls.{order_count}
 use Rattle.kdf_job.specs.declared.place.Place.{Place}
 use Rattle.kdf_job.specs.declared.place.Place.TheVariants.{First, BehindSlot}
 use Rattle.kdf_job.specs.declared.fault.JobFault.{JobFault}
-use Rattle.kdf_job.specs.declared.fault.JobFault.TheVariants.{SlotOrder, SizeNotGroups, StoreFull, DeviceTwice, BadLabel, LabelTwice, BadMedium, ShowRange, ClockFalls, TooManyOrders, TooManyEvents, PoolKind}
+use Rattle.kdf_job.specs.declared.fault.JobFault.TheVariants.{SlotOrder, SizeNotGroups, StoreFull, DeviceTwice, BadLabel, LabelTwice, BadMedium, ShowRange}
+use Rattle.kdf_job.specs.declared.fault.JobFault.TheVariants.{ClockFalls, TooManyOrders, TooManyEvents, PoolKind}
 use Rattle.kdf_job.specs.Forms.{Form, ASlot, AStore, AService, ADeckLine, ADevice, AMedium, AShow, APoolDevice, AnEvent, behind}
 use Rattle.kdf_job.specs.Job.{JobDevice, SlotJob, Job}
 use Rattle.kdf_job.specs.Limits.{group, most_words_together, most_orders, most_events}

@@ -1,7 +1,8 @@
 -- The names of the faults of a job.
 use Rattle.std.specs.Prelude.{ℕ, List, codes}
 use Rattle.kdf_job.specs.declared.fault.JobFault.{JobFault}
-use Rattle.kdf_job.specs.declared.fault.JobFault.TheVariants.{Header, BadLine, BadNumber, SlotOrder, SizeNotGroups, StoreFull, DeviceTwice, BadLabel, LabelTwice, BadMedium, ShowRange, ClockFalls, TooManyOrders, TooManyEvents, PoolKind}
+use Rattle.kdf_job.specs.declared.fault.JobFault.TheVariants.{Header, BadLine, BadNumber, SlotOrder, SizeNotGroups, StoreFull, DeviceTwice, BadLabel}
+use Rattle.kdf_job.specs.declared.fault.JobFault.TheVariants.{LabelTwice, BadMedium, ShowRange, ClockFalls, TooManyOrders, TooManyEvents, PoolKind}
 
 -- the name of each fault
 abbrev pub name_of : JobFault → List ℕ

@@ -1,5 +1,6 @@
 -- Words are written into a group of a lease, one after the other.
-use Rattle.std.proofs.Common.{◌≡◌, ℕ, suc, ◌+◌, ◌-◌, ◌*◌, ◌^◌, ◌/◌, ◌%◌, ◌<◌, ◌≤◌, List, [], ◌∷◌, ◌++◌, length, get_or, set, take, drop, map, Option, Some, refl, sym, ap, ap₂, ◌∙◌, arith, length-set, length-take}
+use Rattle.std.proofs.Common.{◌≡◌, ℕ, suc, ◌+◌, ◌-◌, ◌*◌, ◌^◌, ◌/◌, ◌%◌, ◌<◌, ◌≤◌, List, [], ◌∷◌, ◌++◌, length, get_or, set, take, drop, map, Option, Some}
+use Rattle.std.proofs.Common.{refl, sym, ap, ap₂, ◌∙◌, arith, length-set, length-take}
 use Rattle.std.specs.List.{refill}
 use Rattle.std.proofs.lemmas.List.{get_or-map, get_or-set_same, get_or-take, length-map, map-set, set-get_or, set-set, take_more}
 use Rattle.kdf_word.specs.Characters.{first_word, words_of}
@@ -14,7 +15,8 @@ with_one (v ∷ ws) group i w =
     with_one ws (set group i v) (i + 1) w
     ∙ ap (λ n. set (with_words (set group i v) (i + 1) ws) n w) (let e : i + 1 + length ws ≡ i + suc (length ws) = omega arith in e)
 
-pub with_more : (codes group : List ℕ) (i k w : ℕ) → k < length (words_of codes) → w ≡ first_word (drop (8 * k) codes) → set (with_words group i (take k (words_of codes))) (i + k) w ≡ with_words group i (take (k + 1) (words_of codes))
+pub with_more : (codes group : List ℕ) (i k w : ℕ) → k < length (words_of codes) → w ≡ first_word (drop (8 * k) codes)
+    → set (with_words group i (take k (words_of codes))) (i + k) w ≡ with_words group i (take (k + 1) (words_of codes))
 with_more codes group i k w lt is =
     let ws = words_of codes in
     let within : k < (length codes + 7) / 8 = omega (arith, length-words_of codes) in
@@ -36,7 +38,9 @@ first_eight codes =
     at i lt = get_or-take 8 codes i 0 lt
 
 -- the lease has the group with the words
-lent_group : (l : Lent) (g i : ℕ) (ws : List ℕ) → g - l.first < length l.groups → i + length ws ≤ 32 → with_lent_words l (32 * g + i) ws ≡ (let k : Lent = record { first = l.first; groups = set l.groups (g - l.first) (with_words (get_or l.groups (g - l.first) []) i ws) } in k)
+lent_group : (l : Lent) (g i : ℕ) (ws : List ℕ) → g - l.first < length l.groups → i + length ws ≤ 32
+    → with_lent_words l (32 * g + i) ws ≡ (let k : Lent =
+    record { first = l.first; groups = set l.groups (g - l.first) (with_words (get_or l.groups (g - l.first) []) i ws) } in k)
 lent_group l g i [] lt fits = ap (λ gs. let k : Lent = record { first = l.first; groups = gs } in k) (sym (set-get_or l.groups (g - l.first) []))
 lent_group l g i (w ∷ ws) lt fits =
     let at = g - l.first in
@@ -47,23 +51,29 @@ lent_group l g i (w ∷ ws) lt fits =
     let rem : (32 * g + i) % 32 ≡ i = omega arith in
     let next : 32 * g + i + 1 ≡ 32 * g + (i + 1) = omega arith in
     let there : at < length gs = omega (arith, length-set l.groups at (set group i w)) in
-    ap₂ (λ a b. let k : Lent = record { first = l.first; groups = set l.groups (a - l.first) (set (get_or l.groups (a - l.first) []) b w) } in with_lent_words k (32 * g + i + 1) ws) quot rem
+    ap₂ (λ a b. let k : Lent = record { first = l.first; groups = set l.groups (a - l.first) (set (get_or l.groups (a - l.first) []) b w) } in with_lent_words
+    k (32 * g + i + 1) ws) quot rem
     ∙ ap (λ n. with_lent_words one n ws) next
     ∙ lent_group one g (i + 1) ws there (omega arith)
     ∙ ap (λ x. let k : Lent = record { first = l.first; groups = set gs at (with_words x (i + 1) ws) } in k) (get_or-set_same l.groups at (set group i w) [] lt)
     ∙ ap (λ xs. let k : Lent = record { first = l.first; groups = xs } in k) (set-set l.groups at (set group i w) (with_words (set group i w) (i + 1) ws))
 
-pub lease_written_all : (first : ℕ) (items now : Cells) (place : ℕ) (ws : List ℕ) (old new : List ℕ) (d : Option (List ℕ)) → now ≡ items → get_or now (place / 32 - first) d ≡ Some old → place / 32 - first < length items → place % 32 + length ws ≤ 32 → new ≡ with_words old (place % 32) ws → (let l : Lent = record { first = first; groups = map words_in (refill (length items) items (set now (place / 32 - first) (Some new))) } in l) ≡ with_lent_words (record { first = first; groups = map words_in items }) place ws
+pub lease_written_all : (first : ℕ) (items now : Cells) (place : ℕ) (ws : List ℕ) (old new : List ℕ) (d : Option (List ℕ)) → now ≡ items
+    → get_or now (place / 32 - first) d ≡ Some old → place / 32 - first < length items → place % 32 + length ws ≤ 32 → new ≡ with_words old (place % 32) ws
+    → (let l : Lent = record { first = first; groups = map words_in (refill (length items) items (set now (place / 32 - first) (Some new))) } in l)
+    ≡ with_lent_words (record { first = first; groups = map words_in items }) place ws
 lease_written_all first items now place ws old new d same there lt fits changed =
     let g : ℕ = place / 32 in
     let i : ℕ = g - first in
     let l : Lent = record { first = first; groups = map words_in items } in
-    let all : refill (length items) items (set now i (Some new)) ≡ set items i (Some new) = refill_is items (set now i (Some new)) (length-set now i (Some new) ∙ ap length same) ∙ ap (λ xs. set xs i (Some new)) same in
+    let all : refill (length items) items (set now i (Some new)) ≡ set items i (Some new) =
+    refill_is items (set now i (Some new)) (length-set now i (Some new) ∙ ap length same) ∙ ap (λ xs. set xs i (Some new)) same in
     let group : get_or (map words_in items) i [] ≡ old = get_or-map words_in items i d [] lt ∙ ap words_in (ap (λ xs. get_or xs i d) (sym same) ∙ there) in
     let within : i < length (map words_in items) = omega (arith, length-map items words_in) in
     let parts : 32 * g + place % 32 ≡ place = omega arith in
     ap (λ gs. let k : Lent = record { first = first; groups = gs } in k)
-    (ap (map words_in) all ∙ map-set words_in items i (Some new) ∙ ap (set (map words_in items) i) (changed ∙ ap (λ x. with_words x (place % 32) ws) (sym group)))
+    (ap (map words_in) all ∙ map-set words_in items i (Some new)
+    ∙ ap (set (map words_in items) i) (changed ∙ ap (λ x. with_words x (place % 32) ws) (sym group)))
     ∙ sym (lent_group l g (place % 32) ws within fits)
     ∙ ap (λ n. with_lent_words l n ws) parts
 

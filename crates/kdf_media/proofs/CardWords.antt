@@ -1,5 +1,6 @@
 -- Words of a medium from a place on, and of a card.
-use Rattle.std.proofs.Common.{◌≡◌, ℕ, zero, suc, ◌+◌, ◌-◌, ◌*◌, ◌<◌, ◌≤◌, List, [], ◌∷◌, ◌++◌, Some, None, length, take, drop, replicate, arith, ap, ◌∙◌, sym, length-take, length-append, refl, get_or}
+use Rattle.std.proofs.Common.{◌≡◌, ℕ, zero, suc, ◌+◌, ◌-◌, ◌*◌, ◌<◌, ◌≤◌, List, [], ◌∷◌, ◌++◌, Some, None, length, take, drop, replicate, arith, ap, ◌∙◌, sym}
+use Rattle.std.proofs.Common.{length-take, length-append, refl, get_or}
 use Rattle.std.specs.List.{slice_get}
 use Rattle.std.proofs.lemmas.Option.{none-some, slice_get-get_or, slice_get_past, get_or_from_slice_get}
 use Rattle.std.proofs.lemmas.List.{append-nil, length-replicate, get_or-take, get_or_past, drop-append-le, drop_at, drop-drop, drop-replicate}
@@ -51,10 +52,12 @@ word_of_ten card i eighty h =
     let ten : length (words_of card) ≡ 10 = omega (arith, words, eighty) in
     let inside : i < length (take 10 (words_of card)) = omega (arith, length-take 10 (words_of card), ten) in
     let within : i < 10 = omega arith in
-    slice_get-get_or (take 10 (words_of card)) i 0 inside ∙ ap Some (get_or-take 10 (words_of card) i 0 within ∙ get_or-words_of card i 0 (omega (arith, eighty)))
+    slice_get-get_or (take 10 (words_of card)) i 0 inside
+    ∙ ap Some (get_or-take 10 (words_of card) i 0 within ∙ get_or-words_of card i 0 (omega (arith, eighty)))
 
 -- a word of a card within its characters, behind them, and past the ten
-pub card_within : (codes : List ℕ) (i : ℕ) → length codes ≤ 80 → 8 * i < length codes → slice_get (take 10 (words_of (card_of codes))) i ≡ Some (first_word (drop (8 * i) codes))
+pub card_within : (codes : List ℕ) (i : ℕ) → length codes ≤ 80 → 8 * i < length codes
+    → slice_get (take 10 (words_of (card_of codes))) i ≡ Some (first_word (drop (8 * i) codes))
 card_within codes i short h =
     let n : ℕ = 80 - length codes in
     word_of_ten (card_of codes) i (length_card codes short) (omega arith) ∙
@@ -68,7 +71,8 @@ card_behind codes i short behind h =
     let spaces : drop (8 * i) (card_of codes) ≡ replicate (n - k) 0 =
     ap (λ m. drop m (card_of codes)) (sym on) ∙ sym (drop-drop k (length codes) (card_of codes)) ∙
     ap (drop k) (drop_at codes (replicate n 0) (length codes) refl) ∙ drop-replicate {X = ℕ} k n 0 in
-    word_of_ten (card_of codes) i (length_card codes short) (omega arith) ∙ ap (λ xs. Some (first_word xs)) spaces ∙ ap Some (first_word-spaces [] (n - k) ∙ no_word)
+    word_of_ten (card_of codes) i (length_card codes short) (omega arith) ∙ ap (λ xs. Some (first_word xs)) spaces
+    ∙ ap Some (first_word-spaces [] (n - k) ∙ no_word)
 
 pub card_past : (card : List ℕ) (i : ℕ) → 10 ≤ i → slice_get (take 10 (words_of card)) i ≡ None
 card_past card i h =
@@ -87,8 +91,10 @@ get_or_absent (card ∷ cards) (suc place) h = get_or_absent cards place h
 pub card_absent : (cards : List (List ℕ)) (place i : ℕ) → slice_get cards place ≡ None → slice_get (card_words place cards) i ≡ None
 card_absent cards place i h =
     let none : get_or cards place [] ≡ [] = get_or_absent cards place h in
-    ap (λ c. slice_get (take 10 (words_of c)) i) none ∙ slice_get_past (take 10 (words_of [])) i (omega (arith, length-take 10 (words_of []), length-words_of []))
+    ap (λ c. slice_get (take 10 (words_of c)) i) none
+    ∙ slice_get_past (take 10 (words_of [])) i (omega (arith, length-take 10 (words_of []), length-words_of []))
 
 -- the word at a place of a medium
-pub word_there : (codes : List ℕ) (from i : ℕ) → from + 8 * i < length codes → slice_get (words_of (drop from codes)) i ≡ Some (first_word (drop (from + 8 * i) codes))
+pub word_there : (codes : List ℕ) (from i : ℕ) → from + 8 * i < length codes
+    → slice_get (words_of (drop from codes)) i ≡ Some (first_word (drop (from + 8 * i) codes))
 word_there codes from i h = word_from codes from i (from + 8 * i) refl h

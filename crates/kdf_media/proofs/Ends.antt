@@ -1,5 +1,6 @@
 -- End Messages.
-use Rattle.std.proofs.Common.{◌≡◌, ℕ, suc, ◌+◌, ◌<◌, ◌≤◌, Bool, true, not, cond, eqb, List, [], ◌∷◌, Some, None, length, take, arith, refl, sym, ap, ◌∙◌, nat_lt, ⊎_elim, length-take}
+use Rattle.std.proofs.Common.{◌≡◌, ℕ, suc, ◌+◌, ◌<◌, ◌≤◌, Bool, true, not, cond, eqb, List, [], ◌∷◌, Some, None, length, take, arith, refl, sym, ap, ◌∙◌}
+use Rattle.std.proofs.Common.{nat_lt, ⊎_elim, length-take}
 use Rattle.std.specs.List.{list_any, position, position_or_len}
 use Rattle.std.specs.Io.BufRead.{take_through}
 use Rattle.std.proofs.lemmas.Bool.{cases_Bool, ltb-false}
@@ -13,7 +14,8 @@ up_to : (codes : List ℕ) → take (suc (position_or_len is_end codes)) codes �
 up_to [] = refl
 up_to (c ∷ codes) =
     ⊎_elim
-    (λ yes. ap (λ b. take (suc (cond (not b) (1 + position_or_len is_end codes) 0)) (c ∷ codes)) yes ∙ sym (ap (λ b. cond b (c ∷ []) (c ∷ take_through 61 codes)) yes))
+    (λ yes. ap (λ b. take (suc (cond (not b) (1 + position_or_len is_end codes) 0)) (c ∷ codes)) yes
+    ∙ sym (ap (λ b. cond b (c ∷ []) (c ∷ take_through 61 codes)) yes))
     (λ none.
     let e : suc (1 + position_or_len is_end codes) ≡ suc (suc (position_or_len is_end codes)) = omega arith in
     ap (λ b. take (suc (cond (not b) (1 + position_or_len is_end codes) 0)) (c ∷ codes)) none ∙ ap (λ n. take n (c ∷ codes)) e ∙

@@ -1,5 +1,6 @@
 -- Cards that stand one behind another: one card more, and one of them.
-use Rattle.std.proofs.Common.{◌≡◌, ℕ, zero, suc, ◌+◌, ◌-◌, ◌<◌, ◌≤◌, List, [], ◌∷◌, ◌++◌, Some, None, length, get_or, take, drop, arith, refl, sym, ap, subst, ◌∙◌, length-append}
+use Rattle.std.proofs.Common.{◌≡◌, ℕ, zero, suc, ◌+◌, ◌-◌, ◌<◌, ◌≤◌, List, [], ◌∷◌, ◌++◌, Some, None, length, get_or, take, drop, arith, refl, sym, ap, subst}
+use Rattle.std.proofs.Common.{◌∙◌, length-append}
 use Rattle.std.specs.List.{All, slice_get, slice_index, slice_range}
 use Rattle.std.proofs.lemmas.Option.{slice_get-get_or, slice_get_past}
 use Rattle.std.proofs.lemmas.List.{get_or_append_left, take-append-le, drop-append-le, drop_at, take_all, length-drop}
@@ -38,7 +39,8 @@ pub cards_more : (from : ℕ) (ends codes more : List ℕ) → AreEnds from ends
 cards_more from [] codes more h = ap (λ card. card_of card ∷ []) (range_behind codes more from h)
 cards_more from (end ∷ ends) codes more h =
     let inside = ends_within end ends (length codes) h.2 in
-    let first : card_of (slice_range (codes ++ more) from end) ≡ card_of (slice_range codes from end) = ap card_of (range_before codes more from end h.0 inside) in
+    let first : card_of (slice_range (codes ++ more) from end) ≡ card_of (slice_range codes from end) =
+    ap card_of (range_before codes more from end h.0 inside) in
     let rest = cards_more end ends codes more h.2 in
     cc
 
@@ -55,7 +57,8 @@ pub record AreAround (from end many : ℕ) : Type 0 where
   pub inside : end ≤ many
 
 -- where it begins and ends
-pub ends_at : (from : ℕ) (ends : List ℕ) (many i : ℕ) → AreEnds from ends many → i < length ends → AreAround (slice_index (from ∷ ends) i) (slice_index ends i) many
+pub ends_at : (from : ℕ) (ends : List ℕ) (many i : ℕ) → AreEnds from ends many → i < length ends
+    → AreAround (slice_index (from ∷ ends) i) (slice_index ends i) many
 ends_at from [] many i h inside = absurd (omega arith)
 ends_at from (end ∷ ends) many zero h inside = record { up = h.0; short = h.1; inside = ends_within end ends many h.2 }
 ends_at from (end ∷ ends) many (suc i) h inside = ends_at end ends many i h.2 (omega arith)
@@ -72,13 +75,15 @@ ends_pushed ends codes more new_ends new_codes end h short is is_ends is_codes =
 pub small_pushed : (codes more new_codes : List ℕ) → All (λ c. c < 64) codes → All (λ c. c < 64) more → new_codes ≡ codes ++ more → All (λ c. c < 64) new_codes
 small_pushed codes more new_codes small small_more is = subst (All (λ (c : ℕ). c < 64)) (sym is) (All-append (λ c. c < 64) codes more small small_more)
 
-pub cards_pushed : (ends codes more new_ends new_codes : List ℕ) (end : ℕ) (cards : List (List ℕ)) → AreEnds 0 ends (length codes) → cards ≡ cards_to 0 ends codes
+pub cards_pushed : (ends codes more new_ends new_codes : List ℕ) (end : ℕ) (cards : List (List ℕ)) → AreEnds 0 ends (length codes)
+    → cards ≡ cards_to 0 ends codes
     → end ≡ length codes + length more → new_ends ≡ ends ++ end ∷ [] → new_codes ≡ codes ++ more → cards_to 0 new_ends new_codes ≡ cards ++ card_of more ∷ []
 cards_pushed ends codes more new_ends new_codes end cards h are is is_ends is_codes =
     rw (is_ends, is_codes, is, are) (cards_more 0 ends codes more h)
 
 -- a card of the first ones, and of those behind them
-pub card_before : (whole packed : List (List ℕ)) (place : ℕ) (card : List ℕ) → place < length whole → card ≡ get_or whole place card → slice_get (whole ++ packed) place ≡ Some card
+pub card_before : (whole packed : List (List ℕ)) (place : ℕ) (card : List ℕ) → place < length whole → card ≡ get_or whole place card
+    → slice_get (whole ++ packed) place ≡ Some card
 card_before whole packed place card inside is =
     let many = length-append whole packed in
     let there : place < length (whole ++ packed) = omega (arith, many) in

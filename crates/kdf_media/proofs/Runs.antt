@@ -1,5 +1,6 @@
 -- The cut of a printer, character by character.
-use Rattle.std.proofs.Common.{◌≡◌, ℕ, zero, suc, ◌+◌, ◌-◌, ◌<◌, ◌≤◌, true, false, cond, eqb, List, [], ◌∷◌, ◌++◌, Option, Some, None, length, take, drop, map, arith, refl, sym, ap, ◌∙◌, ⊎_elim, subst}
+use Rattle.std.proofs.Common.{◌≡◌, ℕ, zero, suc, ◌+◌, ◌-◌, ◌<◌, ◌≤◌, true, false, cond, eqb, List, [], ◌∷◌, ◌++◌, Option, Some, None, length, take, drop, map}
+use Rattle.std.proofs.Common.{arith, refl, sym, ap, ◌∙◌, ⊎_elim, subst}
 use Rattle.std.specs.List.{All, slice_split, onto_first, join_with_byte}
 use Rattle.std.specs.Option.{option_map_or}
 use Rattle.std.proofs.lemmas.Bool.{cases_Bool, eqb-true, ne_eqb}
@@ -51,7 +52,8 @@ one_more r c (run ∷ other ∷ others) = refl
 
 -- one character more
 at_end : (room c : ℕ) (cs : List ℕ) → eqb c 2 ≡ true → printed_from room (c ∷ cs) ≡ c ∷ printed_from 160 cs
-at_end room c cs e = ap (λ b. option_map_or (λ left. c ∷ printed_from left cs) (cond b (Some 160) (cond (eqb room 0) None (Some (room - 1)))) (printed_from room cs)) e
+at_end room c cs e = ap (λ b. option_map_or (λ left. c ∷ printed_from left cs) (cond b (Some 160) (cond (eqb room 0) None (Some (room - 1))))
+    (printed_from room cs)) e
 
 at_full : (c : ℕ) (cs : List ℕ) → eqb c 2 ≡ false → printed_from 0 (c ∷ cs) ≡ printed_from 0 cs
 at_full c cs e = ap (λ b. option_map_or (λ left. c ∷ printed_from left cs) (cond b (Some 160) None) (printed_from 0 cs)) e
@@ -76,7 +78,8 @@ cut_by_runs zero (c ∷ cs) =
     at_end 0 c cs yes ∙ ap (λ x. x ∷ printed_from 160 cs) is ∙ ap (λ xs. 2 ∷ xs) (cut_by_runs 160 cs) ∙ sym (ended 0 (runs cs) some) ∙
     sym (ap (λ parts. joined (cut_runs 0 parts)) (slice_split-cons_yes (λ b. eqb b 2) c cs yes)))
     (λ none.
-    at_full c cs none ∙ cut_by_runs 0 cs ∙ sym (full c (runs cs)) ∙ sym (ap (λ parts. joined (cut_runs 0 parts)) (slice_split-cons_no (λ b. eqb b 2) c cs none)))
+    at_full c cs none ∙ cut_by_runs 0 cs ∙ sym (full c (runs cs))
+    ∙ sym (ap (λ parts. joined (cut_runs 0 parts)) (slice_split-cons_no (λ b. eqb b 2) c cs none)))
     (cases_Bool (eqb c 2))
 cut_by_runs (suc r) (c ∷ cs) =
     ⊎_elim

@@ -1,9 +1,11 @@
 -- The words of a text up to its End Message, found word by word: the word that has the first one is filled up after it.
-use Rattle.std.proofs.Common.{◌≡◌, ℕ, zero, suc, ◌+◌, ◌-◌, ◌*◌, ◌/◌, ◌<◌, ◌≤◌, true, false, cond, eqb, List, [], ◌∷◌, ◌++◌, length, take, drop, get_or, replicate, arith, refl, sym, ap, subst, ◌∙◌, ⊎_elim, length-drop, length-take, length-append}
+use Rattle.std.proofs.Common.{◌≡◌, ℕ, zero, suc, ◌+◌, ◌-◌, ◌*◌, ◌/◌, ◌<◌, ◌≤◌, true, false, cond, eqb, List, [], ◌∷◌, ◌++◌, length, take, drop, get_or}
+use Rattle.std.proofs.Common.{replicate, arith, refl, sym, ap, subst, ◌∙◌, ⊎_elim, length-drop, length-take, length-append}
 use Rattle.std.specs.Prelude.{◌||◌}
 use Rattle.std.specs.List.{All}
 use Rattle.std.proofs.lemmas.Bool.{cases_Bool, cases_lt}
-use Rattle.std.proofs.lemmas.List.{append-nil, drop-drop, drop_all, drop_at, ext_get_or, get_or_append_left, get_or-append_right, length-replicate, length-take-le, nil_from_length, take-append-drop, take_all}
+use Rattle.std.proofs.lemmas.List.{append-nil, drop-drop, drop_all, drop_at, ext_get_or, get_or_append_left, get_or-append_right, length-replicate}
+use Rattle.std.proofs.lemmas.List.{length-take-le, nil_from_length, take-append-drop, take_all}
 use Rattle.std.proofs.lemmas.List.Elements.{All-drop}
 use Rattle.kdf_word.specs.Characters.{codes_of, first_word, words_of}
 use Rattle.kdf_word.proofs.Packing.{codes_of-first_word, get_or-words_of, length-words_of}
@@ -126,7 +128,8 @@ has_end-first codes small =
     (λ long. ap has_end (codes_of-first_word codes small long))
     (cases_lt (length codes) 8)
 
-through_end-first : (codes : List ℕ) → All (λ c. c < 64) codes → has_end (take 8 codes) ≡ true → through_end (codes_of (first_word codes)) ≡ through_end (take 8 codes)
+through_end-first : (codes : List ℕ) → All (λ c. c < 64) codes → has_end (take 8 codes) ≡ true
+    → through_end (codes_of (first_word codes)) ≡ through_end (take 8 codes)
 through_end-first codes small ends =
     ⊎_elim
     (λ short.
@@ -145,7 +148,8 @@ unfolding words_of
 no_words codes none = let e : codes ≡ [] = nil_from_length codes (omega (arith, none)) in ap words_of e
 
 -- the End Message is among the first eight codes
-ends_here : (codes : List ℕ) → All (λ c. c < 64) codes → 0 < length codes → has_end (take 8 codes) ≡ true → words_of (through_end codes) ≡ ended_words (words_of codes)
+ends_here : (codes : List ℕ) → All (λ c. c < 64) codes → 0 < length codes → has_end (take 8 codes) ≡ true
+    → words_of (through_end codes) ≡ ended_words (words_of codes)
 ends_here codes small some ends =
     let front = take 8 codes in
     let stop = through_end front in

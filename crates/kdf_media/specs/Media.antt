@@ -1,5 +1,6 @@
 -- Readers, card readers, punches and printers: which characters an order reads or prints, and what it leaves.
-use Rattle.std.specs.Prelude.{ℕ, ◌+◌, ◌-◌, ◌*◌, ◌^◌, ◌<◌, ◌≤◌, ◌==◌, ◌&&◌, not, nat_lt, nat_le, min, Bool, if◌then◌else◌, List, [], ◌∷◌, ◌++◌, length, take, drop, map, replicate, slice_index_or}
+use Rattle.std.specs.Prelude.{ℕ, ◌+◌, ◌-◌, ◌*◌, ◌^◌, ◌<◌, ◌≤◌, ◌==◌, ◌&&◌, not, nat_lt, nat_le, min, Bool, if◌then◌else◌, List, [], ◌∷◌, ◌++◌, length, take}
+use Rattle.std.specs.Prelude.{drop, map, replicate, slice_index_or}
 use Rattle.std.specs.List.{All, list_any, slice_split, join_with_byte}
 use Rattle.std.specs.Io.BufRead.{take_through}
 use Rattle.kdf_word.specs.Characters.{codes_of, words_of}

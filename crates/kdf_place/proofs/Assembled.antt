@@ -47,7 +47,8 @@ has-room : (m : Meanings) (ss : List Statement) (y size : ℕ) → meaning m ≡
     → length (picture_of ss).words ≤ size
 has-room m ss y size e ye le = rw (← total m ss e, ← ye) le
 
-same-picture : (ss ss' : List Statement) (meant : Names) (refs : List Label) (image : Image) → ss' ≡ ss → meant ≡ names ss → refs ≡ map label_of (labels front ss)
+same-picture : (ss ss' : List Statement) (meant : Names) (refs : List Label) (image : Image) → ss' ≡ ss → meant ≡ names ss
+    → refs ≡ map label_of (labels front ss)
     → image.words.items ≡ words meant ss' → image.start ≡ start_of meant → image.labels.items ≡ refs
     → picture_of ss ≡ shown_image image
 same-picture ss ss' meant refs image s m l w f r =
@@ -56,7 +57,8 @@ same-picture ss ss' meant refs image s m l w f r =
     ∙ ap (λ b. made (words (names ss) ss) b image.labels.items) (f ∙ ap start_of m)
     ∙ ap (λ c. made (words (names ss) ss) (start_of (names ss)) c) (r ∙ l))
 
-pub with-room : (m : Meanings) (ss ss' : List Statement) (refs : List Label) (image : Image) (y len size : ℕ) → ss' ≡ ss → meaning m ≡ names ss → refs ≡ map label_of (labels front ss)
+pub with-room : (m : Meanings) (ss ss' : List Statement) (refs : List Label) (image : Image) (y len size : ℕ) → ss' ≡ ss → meaning m ≡ names ss
+    → refs ≡ map label_of (labels front ss)
     → image.words.items ≡ words (meaning m) ss' → image.start ≡ start_of (meaning m) → image.labels.items ≡ refs
     → y ≡ sum m.groups → m.behind + y ≤ size
     → (sized (picture_of ss) len size ≡ Ok (shown_image image)) × (length image.words.items ≤ size)

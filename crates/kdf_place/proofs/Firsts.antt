@@ -1,5 +1,6 @@
 -- The first entry of a number among entries in order.
-use Rattle.std.proofs.Common.{◌≡◌, ◌≢◌, ℕ, zero, suc, ◌+◌, ◌-◌, ◌<◌, ◌≤◌, length, get_or, take, drop, Bool, true, false, cond, eqb, ltb, is_some, List, [], ◌∷◌, ◌++◌, Option, Some, None, refl, sym, ap, ◌∙◌, arith, inl, inr}
+use Rattle.std.proofs.Common.{◌≡◌, ◌≢◌, ℕ, zero, suc, ◌+◌, ◌-◌, ◌<◌, ◌≤◌, length, get_or, take, drop, Bool, true, false, cond, eqb, ltb, is_some, List, [], ◌∷◌}
+use Rattle.std.proofs.Common.{◌++◌, Option, Some, None, refl, sym, ap, ◌∙◌, arith, inl, inr}
 use Rattle.std.proofs.Math.Seq.{drop-cons}
 use Rattle.std.proofs.lemmas.Bool.{cases_lt, cases_Bool, lt-ltb, le-ltb, eqb-true, eq-eqb}
 use Rattle.std.proofs.lemmas.List.{at_drop_more, take_more, get_or_default, get_or-take, take-append-drop, length-take-le}
@@ -18,7 +19,8 @@ take-entry : {T : Type 0} (i : ℕ) (es : List T) (e : T) → i < length es → 
 take-entry i es e lt is = take_more es i e lt ∙ ap (λ x. take i es ++ x ∷ []) (sym is)
 
 -- one entry more was looked at
-pub twice-step : {T : Type 0} (fault : DeckFault) (best best' : Option Found) (i : ℕ) (es : List (Entry T)) (e : Entry T) (stood : Bool) → i < length es → e ≡ get_or es i e
+pub twice-step : {T : Type 0} (fault : DeckFault) (best best' : Option Found) (i : ℕ) (es : List (Entry T)) (e : Entry T) (stood : Bool) → i < length es
+    → e ≡ get_or es i e
     → stood ≡ is_some (first e.section e.number (take i es))
     → best' ≡ lesser best (least (cond stood (found fault e.place ∷ []) []))
     → lesser best' (least (twice fault (take (i + 1) es) (drop (i + 1) es))) ≡ lesser best (least (twice fault (take i es) (drop i es)))

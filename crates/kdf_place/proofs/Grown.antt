@@ -7,7 +7,8 @@ use Rattle.kdf_place.specs.declared.here.Here.{Here}
 use Rattle.kdf_place.specs.Layout.{after}
 
 -- what a statement gives came after the others, and what the later ones give comes after it
-pub grown : {A : Type 0} (f : Here → List Statement → List A) (out out' one : List A) (here here' : Here) (i : ℕ) (ss : List Statement) (s : Statement) (all : List A)
+pub grown : {A : Type 0} (f : Here → List Statement → List A) (out out' one : List A) (here here' : Here) (i : ℕ) (ss : List Statement) (s : Statement)
+    (all : List A)
     → i < length ss → s ≡ get_or ss i s → here' ≡ after here s → f here (s ∷ drop (i + 1) ss) ≡ one ++ f (after here s) (drop (i + 1) ss)
     → out' ≡ out ++ one → out ++ f here (drop i ss) ≡ all → out' ++ f here' (drop (i + 1) ss) ≡ all
 grown {A = A} f out out' one here here' i ss s all lt is h gives more before =

@@ -1,5 +1,6 @@
 -- Every statement stands where the walk over those before it has come to.
-use Rattle.std.proofs.Common.{◌≡◌, ℕ, ◌+◌, ◌-◌, ◌*◌, ◌/◌, ◌<◌, ◌≤◌, true, List, [], ◌∷◌, ◌++◌, length, length-append, get_or, sum, replicate, inl, inr, Some, refl, sym, ap, ◌∙◌, append_assoc, arith}
+use Rattle.std.proofs.Common.{◌≡◌, ℕ, ◌+◌, ◌-◌, ◌*◌, ◌/◌, ◌<◌, ◌≤◌, true, List, [], ◌∷◌, ◌++◌, length, length-append, get_or, sum, replicate, inl, inr, Some}
+use Rattle.std.proofs.Common.{refl, sym, ap, ◌∙◌, append_assoc, arith}
 use Rattle.std.proofs.lemmas.List.{append-nil, get_or_append_left, get_or-replicate, length-replicate}
 use Rattle.kdf_syllable.specs.declared.order.Order.{Order}
 use Rattle.kdf_syllable.specs.declared.order.Order.TheVariants.{Jump}
@@ -17,7 +18,8 @@ use Rattle.kdf_place.specs.Placement.{order_of, spelt, filling, syllables_of, sy
 use Rattle.kdf_place.specs.Stands.{syllable_at, Stand, IsFilled, begins_word}
 use Rattle.kdf_place.proofs.Lengths.{round_up-above, length-statement, length-syllables, length-words_of, length-first, words-image}
 use Rattle.kdf_place.proofs.Untouched.{Misses, one-untouched, untouched-before, untouched-later}
-use Rattle.kdf_place.proofs.Walks.{nil-both, nil-founds, walked-append, walked-above, wrongs-append, constants-append, bytes, syllables-append, length-bytes, stores_end}
+use Rattle.kdf_place.proofs.Walks.{nil-both, nil-founds, walked-append, walked-above, wrongs-append, constants-append, bytes, syllables-append, length-bytes}
+use Rattle.kdf_place.proofs.Walks.{stores_end}
 use Rattle.kdf_place.proofs.Syllables.{bytes-all, syllable-words_of, get_or-middle}
 
 -- the words before the constants are put into them
@@ -64,7 +66,8 @@ same-word m before behind s ws k ok low high misses =
     ∙ untouched-before m front before ws (k / 6) both.0 (omega arith) (omega arith)
 
 -- the syllables of a statement stand at its place
-stand-statement : (m : Names) (before behind : List Statement) (s : Statement) (k j : ℕ) → AreInRange (before ++ s ∷ behind) → wrongs m front (before ++ s ∷ behind) ≡ []
+stand-statement : (m : Names) (before behind : List Statement) (s : Statement) (k j : ℕ) → AreInRange (before ++ s ∷ behind)
+    → wrongs m front (before ++ s ∷ behind) ≡ []
     → k ≡ (walked front before).at + j → j < length (syllables_of m (walked front before) s.what) → Misses (after (walked front before) s).section (k / 6)
     → syllable_at (words m (before ++ s ∷ behind)) k ≡ get_or (syllables_of m (walked front before) s.what) j 0
 stand-statement m before behind s k j are ok is lt misses =
@@ -85,13 +88,15 @@ stand-statement m before behind s k j are ok is lt misses =
     (same-word m before behind s (plain m ss) k ok (omega arith) (omega (arith, is, lt, here_end)) misses)
     ∙ get_or-middle (first_word m ++ syllables m front ss) pre mid back here.at k j joined len is lt
 
-order-syllables : (m : Names) (here : Here) (what : What) (order : Order) → order_of m here.section what ≡ Some order → syllables_of m here what ≡ spelling order
+order-syllables : (m : Names) (here : Here) (what : What) (order : Order) → order_of m here.section what ≡ Some order
+    → syllables_of m here what ≡ spelling order
 order-syllables m here Star order e = absurd cc
 order-syllables m here (Program v) order e = absurd cc
 order-syllables m here (Part p v) order e = absurd cc
 order-syllables m here what order e = ap spelt e
 
-order-section : (m : Names) (here : Here) (place : ℕ) (what : What) (order : Order) → order_of m here.section what ≡ Some order → section_after here place what ≡ here.section
+order-section : (m : Names) (here : Here) (place : ℕ) (what : What) (order : Order) → order_of m here.section what ≡ Some order
+    → section_after here place what ≡ here.section
 order-section m here place (Program v) order e = absurd cc
 order-section m here place (Part p v) order e = absurd cc
 order-section m here place what order e = refl
@@ -104,7 +109,8 @@ within m before behind s =
     let goes_at : (walked front ss).at ≡ (walked (after here s) behind).at = ap (λ (h : Here). h.at) (walked-append front before (s ∷ behind)) in
     omega (arith, words-image m ss, walked-above m (after here s) behind, goes_at)
 
-pub stand-order : (m : Names) (before behind : List Statement) (s : Statement) (order : Order) → AreInRange (before ++ s ∷ behind) → wrongs m front (before ++ s ∷ behind) ≡ []
+pub stand-order : (m : Names) (before behind : List Statement) (s : Statement) (order : Order) → AreInRange (before ++ s ∷ behind)
+    → wrongs m front (before ++ s ∷ behind) ≡ []
     → order_of m (walked front before).section s.what ≡ Some order
     → Stand (words m (before ++ s ∷ behind)) (walked front before).at (spelling order)
 stand-order m before behind s order are ok e =
@@ -137,7 +143,10 @@ filled-before here place what begins = absurd cc
 -- what begins on a new word begins with the filling of the word before
 fills : (m : Names) (here : Here) (what : What) (j : ℕ) → begins_word what ≡ true → j < round_up here.at - here.at
     → (j < length (syllables_of m here what)) × (get_or (syllables_of m here what) j 0 ≡ 1)
-fills m here Star j begins lt = (omega (arith, lt, length-replicate {A = ℕ} (round_up here.at - here.at) 1), get_or-replicate (round_up here.at - here.at) j 1 0 lt)
+fills m here Star j begins lt = (
+  omega (arith, lt, length-replicate {A = ℕ} (round_up here.at - here.at) 1),
+  get_or-replicate (round_up here.at - here.at) j 1 0 lt,
+)
 fills m here (Program v) j begins lt = fills-opening here.at (6 * stores v) j lt
 fills m here (Part p v) j begins lt = fills-opening here.at (6 * stores v) j lt
 fills m here what j begins lt = absurd cc
@@ -149,7 +158,8 @@ misses-filling here place (Program v) k begins end low high = inr (omega arith)
 misses-filling here place (Part p v) k begins end low high = inr (omega arith)
 misses-filling here place what k begins end low high = absurd cc
 
-pub stand-filling : (m : Names) (before behind : List Statement) (s : Statement) → AreInRange (before ++ s ∷ behind) → wrongs m front (before ++ s ∷ behind) ≡ []
+pub stand-filling : (m : Names) (before behind : List Statement) (s : Statement) → AreInRange (before ++ s ∷ behind)
+    → wrongs m front (before ++ s ∷ behind) ≡ []
     → begins_word s.what ≡ true → IsFilled (words m (before ++ s ∷ behind)) (walked front before).at
 stand-filling m before behind s are ok begins =
     let here = walked front before in
@@ -181,7 +191,8 @@ stand-last m ss are ok =
     )
 
 -- word 0
-pub stand-start : (m : Names) (ss : List Statement) → AreInRange ss → wrongs m front ss ≡ [] → Stand (words m ss) 0 (spelling (Jump 0x20 (jump_target (start_of m))))
+pub stand-start : (m : Names) (ss : List Statement) → AreInRange ss → wrongs m front ss ≡ []
+    → Stand (words m ss) 0 (spelling (Jump 0x20 (jump_target (start_of m))))
 unfolding spelling
 stand-start m ss are ok =
     let jump = spelling (Jump 0x20 (jump_target (start_of m))) in
@@ -190,6 +201,7 @@ stand-start m ss are ok =
       omega (arith, words-image m ss, above),
       λ k lt.
           let three : k < 3 = lt in
-          syllable-plain m ss (0 + k) are (omega (arith, three, above)) (untouched-later m front ss (plain m ss) ((0 + k) / 6) ok (inl (omega arith)) (omega arith))
+          syllable-plain m ss (0 + k) are (omega (arith, three, above))
+          (untouched-later m front ss (plain m ss) ((0 + k) / 6) ok (inl (omega arith)) (omega arith))
           ∙ get_or-middle (first_word m ++ syllables m front ss) [] jump (rest ++ syllables m front ss) 0 (0 + k) k refl refl refl lt,
     )

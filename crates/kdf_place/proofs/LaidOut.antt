@@ -1,5 +1,6 @@
 -- The image of a deck without faults is laid out.
-use Rattle.std.proofs.Common.{◌≡◌, ℕ, Bool, true, false, cond, ltb, ◌+◌, List, [], ◌∷◌, ◌++◌, length, get_or, Option, Some, None, Result, Ok, Err, refl, sym, ap, subst, ◌∙◌}
+use Rattle.std.proofs.Common.{◌≡◌, ℕ, Bool, true, false, cond, ltb, ◌+◌, List, [], ◌∷◌, ◌++◌, length, get_or, Option, Some, None, Result, Ok, Err, refl, sym}
+use Rattle.std.proofs.Common.{ap, subst, ◌∙◌}
 use Rattle.kdf_syllable.specs.Spelling.{spelling}
 use Rattle.kdf_usercode.specs.declared.fault.DeckFault.TheVariants.{PartTwice, ReferenceTwice, VRange, TooLarge}
 use Rattle.kdf_usercode.specs.declared.statement.Statement.{Statement}
@@ -20,7 +21,8 @@ verdict-ok : (o : Option Found) (rest : Result Picture Found) (image : Picture) 
 verdict-ok None rest image e = (refl, e)
 verdict-ok (Some f) rest image e = absurd cc
 
-roomy : (b : Bool) (f : Found) (picture image : Picture) (answer : Result Picture Found) → answer ≡ cond b (Err f) (Ok picture) → answer ≡ Ok image → picture ≡ image
+roomy : (b : Bool) (f : Found) (picture image : Picture) (answer : Result Picture Found) → answer ≡ cond b (Err f) (Ok picture) → answer ≡ Ok image
+    → picture ≡ image
 roomy true f picture image answer is e = absurd cc
 roomy false f picture image answer is e = cc
 
@@ -28,11 +30,15 @@ roomy false f picture image answer is e = cc
 pub placed-ok : (ss : List Statement) (len size : ℕ) (image : Picture) → placed ss len size ≡ Ok image → (late_faults ss ≡ []) × (picture_of ss ≡ image)
 unfolding placed
 placed-ok ss len size image e =
-    let both = verdict-ok (least (late_faults ss)) (sized (picture_of ss) len size) image e in
-    (least-none (late_faults ss) both.0, roomy (ltb size (length (picture_of ss).words)) (found TooLarge len) (picture_of ss) image (sized (picture_of ss) len size) refl both.1)
+    let both = verdict-ok (least (late_faults ss)) (sized (picture_of ss) len size) image e in (
+      least-none (late_faults ss) both.0,
+      roomy (ltb size (length (picture_of ss).words)) (found TooLarge len) (picture_of ss) image
+          (sized (picture_of ss) len size) refl both.1,
+    )
 
 late-none : (ss : List Statement) → late_faults ss ≡ []
-    → (twice PartTwice [] (openings front ss) ≡ []) × (twice ReferenceTwice [] (labels front ss) ≡ []) × (wrongs (names ss) front ss ≡ []) × (twice VRange [] (constants front ss) ≡ [])
+    → (twice PartTwice [] (openings front ss) ≡ []) × (twice ReferenceTwice [] (labels front ss) ≡ []) × (wrongs (names ss) front ss ≡ [])
+    × (twice VRange [] (constants front ss) ≡ [])
 late-none ss none =
     let parts = twice PartTwice [] (openings front ss) in
     let references = twice ReferenceTwice [] (labels front ss) in
@@ -42,12 +48,14 @@ late-none ss none =
     let two = nil-both parts references three.0 in
     (two.0, two.1, all.1, three.1)
 
-named-each : (ss before behind : List Statement) (s : Statement) → wrongs (names ss) front ss ≡ [] → ss ≡ before ++ s ∷ behind → wrong (names ss) (walked front before) s.what ≡ []
+named-each : (ss before behind : List Statement) (s : Statement) → wrongs (names ss) front ss ≡ [] → ss ≡ before ++ s ∷ behind
+    → wrong (names ss) (walked front before) s.what ≡ []
 named-each ss before behind s ok e =
     let m = names ss in
     let here = walked front before in
     let split : wrongs m front before ++ wrongs m here (s ∷ behind) ≡ [] = sym (wrongs-append m front before (s ∷ behind)) ∙ ap (wrongs m front) (sym e) ∙ ok in
-    let founds : wrongs m here (s ∷ []) ++ _ ≡ [] = sym (wrongs-append m here (s ∷ []) behind) ∙ (nil-both (wrongs m front before) (wrongs m here (s ∷ behind)) split).1 in
+    let founds : wrongs m here (s ∷ []) ++ _ ≡ [] = sym (wrongs-append m here (s ∷ []) behind)
+    ∙ (nil-both (wrongs m front before) (wrongs m here (s ∷ behind)) split).1 in
     nil-founds s.place (wrong m here s.what) (nil-both _ [] (nil-both (wrongs m here (s ∷ [])) _ founds).0).0
 
 laid-out : (ss : List Statement) → AreInRange ss → late_faults ss ≡ [] → IsLaidOut ss (picture_of ss)

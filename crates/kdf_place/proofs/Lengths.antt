@@ -5,7 +5,8 @@ use Rattle.std.proofs.lemmas.List.{length-replicate}
 use Rattle.kdf_syllable.specs.Spelling.{spelling}
 use Rattle.kdf_usercode.specs.declared.statement.Statement.{Statement}
 use Rattle.kdf_usercode.specs.declared.statement.What.{What}
-use Rattle.kdf_usercode.specs.declared.statement.What.TheVariants.{Declare, Program, Part, Constant, Reference, Star, Plain, Fetch, Keep, Go, Short, SetAddress, Finish}
+use Rattle.kdf_usercode.specs.declared.statement.What.TheVariants.{Declare, Program, Part, Constant, Reference, Star, Plain, Fetch, Keep, Go, Short, SetAddress}
+use Rattle.kdf_usercode.specs.declared.statement.What.TheVariants.{Finish}
 use Rattle.kdf_place.specs.declared.here.Here.{Here}
 use Rattle.kdf_place.specs.declared.here.Section.{Section}
 use Rattle.kdf_place.specs.Layout.{size_of, stores, words_for, round_up, advance, after, front, end_of}
@@ -58,7 +59,12 @@ length-statement names here (SetAddress place) = ap (λ n. here.at + n) (length-
 pub length-syllables : (names : Names) (here : Here) (ss : List Statement) → here.at + length (syllables names here ss) ≡ round_up (end_of here ss)
 length-syllables names here [] = length-filling here.at
 length-syllables names here (s ∷ ss) =
-    omega (arith, length-append (syllables_of names here s.what) (syllables names (after here s) ss), length-statement names here s.what, length-syllables names (after here s) ss)
+    omega (
+      arith,
+      length-append (syllables_of names here s.what) (syllables names (after here s) ss),
+      length-statement names here s.what,
+      length-syllables names (after here s) ss,
+    )
 
 pub length-words_of : (bytes : List ℕ) → length (words_of bytes) ≡ length bytes / 6
 length-words_of [] = refl

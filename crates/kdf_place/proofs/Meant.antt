@@ -47,7 +47,8 @@ first-new (d ∷ es) e later none =
     none (first-new es e later)
 
 -- an entry whose number stands once is what its number means
-means-entry : {T : Type 0} (fault : DeckFault) (all es : List (Entry T)) (e : Entry T) (later : List (Entry T)) → all ≡ es ++ e ∷ later → twice fault [] all ≡ []
+means-entry : {T : Type 0} (fault : DeckFault) (all es : List (Entry T)) (e : Entry T) (later : List (Entry T)) → all ≡ es ++ e ∷ later
+    → twice fault [] all ≡ []
     → first e.section e.number all ≡ Some e.means
 means-entry {T = T} fault all es e later is none =
     let split : twice fault [] (es ++ e ∷ later) ≡ [] = ap (twice fault []) (sym is) ∙ none in

@@ -25,10 +25,12 @@ founds-front place best first result xs ys e f =
 pub founds-three : (place : ℕ) (best first second result : Option Found) (xs ys zs : List DeckFault)
     → first ≡ lesser best (least (founds place xs)) → second ≡ lesser first (least (founds place ys)) → result ≡ lesser second (least (founds place zs))
     → result ≡ lesser best (least (founds place (xs ++ ys ++ zs)))
-founds-three place best first second result xs ys zs e f g = founds-front place best second result (xs ++ ys) zs (founds-front place best first second xs ys e f) g
+founds-three place best first second result xs ys zs e f g = founds-front place best second result (xs ++ ys) zs
+    (founds-front place best first second xs ys e f) g
 
 -- one statement more was looked at
-pub wrong-step : (names : Names) (best best' : Option Found) (here here' : Here) (i : ℕ) (ss : List Statement) (s : Statement) → i < length ss → s ≡ get_or ss i s
+pub wrong-step : (names : Names) (best best' : Option Found) (here here' : Here) (i : ℕ) (ss : List Statement) (s : Statement) → i < length ss
+    → s ≡ get_or ss i s
     → here' ≡ after here s → best' ≡ lesser best (least (founds s.place (wrong names here s.what)))
     → lesser best' (least (wrongs names here' (drop (i + 1) ss))) ≡ lesser best (least (wrongs names here (drop i ss)))
 wrong-step names best best' here here' i ss s lt is h b =

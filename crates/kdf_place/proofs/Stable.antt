@@ -1,5 +1,6 @@
 -- What a stable sort keeps: the first entry of each number, and the faults of those that stand twice.
-use Rattle.std.proofs.Common.{◌≡◌, ℕ, ◌⊎◌, inl, inr, Bool, true, false, not, ◌&&◌, cond, eqb, is_some, List, [], ◌∷◌, ◌++◌, Option, Some, None, refl, sym, ap, subst, ◌∙◌, arith}
+use Rattle.std.proofs.Common.{◌≡◌, ℕ, ◌⊎◌, inl, inr, Bool, true, false, not, ◌&&◌, cond, eqb, is_some, List, [], ◌∷◌, ◌++◌, Option, Some, None, refl, sym, ap}
+use Rattle.std.proofs.Common.{subst, ◌∙◌, arith}
 use Rattle.std.proofs.lemmas.Bool.{cases_Bool, le-ltb, eq-eqb, eqb-true}
 use Rattle.std.proofs.lemmas.List.{append-nil}
 use Rattle.std.proofs.lemmas.List.Elements.{filter-append}
@@ -110,7 +111,8 @@ with-alike {T = T} fault f before (e ∷ es) is =
         e,
         λ q by pass.
             let passed : filter q (e ∷ es) ≡ e ∷ filter q es = rw pass refl in
-            let now : IsOneOf f (fault_of fault (filter q before) e) = subst (λ (fs : List Found). IsOneOf f fs) (sym (fault_of-filter fault q before e by pass)) here in
+            let now : IsOneOf f (fault_of fault (filter q before) e) =
+            subst (λ (fs : List Found). IsOneOf f fs) (sym (fault_of-filter fault q before e by pass)) here in
             subst (λ (xs : List (Entry T)). IsOneOf f (twice fault (filter q before) xs)) (sym passed)
             (joined-left f (fault_of fault (filter q before) e) (twice fault (filter q before ++ e ∷ []) (filter q es)) now),
       )
@@ -200,7 +202,8 @@ moved {T = T} fault xs ys f stable is =
     among-all fault (alike x) f [] ys (alike-by x)
     (subst (λ (es : List (Entry T)). IsOneOf f (twice fault [] es)) (sym (stable x)) (there.1 (alike x) (alike-by x) (alike-self x)))
 
-pub twice-stable : {T : Type 0} (fault : DeckFault) (xs ys : List (Entry T)) → IsStableByKey key nat_cmp xs ys → least (twice fault [] ys) ≡ least (twice fault [] xs)
+pub twice-stable : {T : Type 0} (fault : DeckFault) (xs ys : List (Entry T)) → IsStableByKey key nat_cmp xs ys
+    → least (twice fault [] ys) ≡ least (twice fault [] xs)
 twice-stable fault xs ys stable =
     least-alike (twice fault [] ys) (twice fault [] xs)
     (λ f is. moved fault ys xs f (λ x. sym (stable x)) is)

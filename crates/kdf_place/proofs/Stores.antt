@@ -1,5 +1,6 @@
 -- A constant stands in its V-store, and every store that is named stands in the image.
-use Rattle.std.proofs.Common.{◌≡◌, ◌≢◌, ℕ, ◌+◌, ◌*◌, ◌<◌, ◌≤◌, ◌⊎◌, inl, inr, true, false, cond, eqb, is_some, List, [], ◌∷◌, ◌++◌, length, get_or, take, drop, sum, replicate, Option, Some, None, Ok, Err, append_assoc, refl, sym, ap, ◌∙◌, arith}
+use Rattle.std.proofs.Common.{◌≡◌, ◌≢◌, ℕ, ◌+◌, ◌*◌, ◌<◌, ◌≤◌, ◌⊎◌, inl, inr, true, false, cond, eqb, is_some, List, [], ◌∷◌, ◌++◌, length, get_or, take, drop}
+use Rattle.std.proofs.Common.{sum, replicate, Option, Some, None, Ok, Err, append_assoc, refl, sym, ap, ◌∙◌, arith}
 use Rattle.std.proofs.Math.ListN.{get_or-eq_default}
 use Rattle.std.proofs.lemmas.Bool.{cases_lt, cases_Bool, lt-ltb, le-ltb, eq-eqb, eqb-true}
 use Rattle.std.proofs.lemmas.List.Sums.{sum_by-take-drop, sum_by-drop_more}
@@ -87,7 +88,8 @@ first-some {T = T} p n (x ∷ xs) ys v is =
 
 -- ---- a constant in its V-store
 
-constants-split : (here : Here) (before behind : List Statement) → constants here (before ++ behind) ≡ constants here before ++ constants (walked here before) behind
+constants-split : (here : Here) (before behind : List Statement) → constants here (before ++ behind) ≡ constants here before ++ constants
+    (walked here before) behind
 constants-split here [] behind = refl
 constants-split here (s ∷ before) behind =
     let one = constant_at s.what here.section s.place in
@@ -98,7 +100,8 @@ constants-split here (s ∷ before) behind =
 abbrev IsLater : Section → Section → ℕ → Type 0
 IsLater now section w = (now ≡ section) ⊎ (w < now.base)
 
-later-section : (here : Here) (place : ℕ) (what : What) (section : Section) (w : ℕ) → IsLater here.section section w → 6 * w < here.at → IsLater (section_after here place what) section w
+later-section : (here : Here) (place : ℕ) (what : What) (section : Section) (w : ℕ) → IsLater here.section section w → 6 * w < here.at
+    → IsLater (section_after here place what) section w
 later-section here place (Program v) section w later low = inr (omega arith)
 later-section here place (Part p v) section w later low = inr (omega arith)
 later-section here place what section w later low = later
@@ -130,7 +133,8 @@ kept-later names here (s ∷ ss) ws section n none later low =
     ∙ kept-one names here.section section s.what s.place n ws both.0 later
 
 -- the V-store is there
-there : (names : Names) (here : Here) (what : What) (n : ℕ) (constant : Value) → wrong names here what ≡ [] → what ≡ Constant n constant → n < here.section.stores
+there : (names : Names) (here : Here) (what : What) (n : ℕ) (constant : Value) → wrong names here what ≡ [] → what ≡ Constant n constant
+    → n < here.section.stores
 there names here what n constant ok is =
     let ok_constant : wrong names here (Constant n constant) ≡ [] = ap (wrong names here) (sym is) ∙ ok in
     store-there here.section.base here.section.stores n
@@ -150,7 +154,8 @@ stand-constant m before behind s n constant ok once is =
     let later = constants (after here s) behind in
     let one : constant_at s.what here.section s.place ≡ e ∷ [] = ap (λ (x : What). constant_at x here.section s.place) is in
     let all : constants front ss ≡ (earlier ++ e ∷ []) ++ later =
-    constants-split front before (s ∷ behind) ∙ ap (λ (es : List (Entry (Unit {0}))). earlier ++ (es ++ later)) one ∙ sym (append_assoc earlier (e ∷ []) later) in
+    constants-split front before (s ∷ behind) ∙ ap (λ (es : List (Entry (Unit {0}))). earlier ++ (es ++ later)) one
+    ∙ sym (append_assoc earlier (e ∷ []) later) in
     let none = stands-no-more VRange here.section.opened n (earlier ++ e ∷ []) later
     (twice-later VRange [] (earlier ++ e ∷ []) later (ap (twice VRange []) (sym all) ∙ once)) (some-last earlier e) in
     let same : (after here s).section ≡ here.section = ap (λ (x : What). section_after here s.place x) is in
@@ -159,7 +164,8 @@ stand-constant m before behind s n constant ok once is =
     let goes : (walked front ss).at ≡ (walked (after here s) behind).at = ap (λ (h : Here). h.at) (walked-append front before (s ∷ behind)) in
     let long : length (words m ss) ≡ length plain = length-constants m front ss plain in
     ap (λ (xs : List ℕ). get_or xs w 0) (constants-append m front before (s ∷ behind) plain)
-    ∙ kept-later m (after here s) behind (with_constant m here.section s.what before_it) here.section n none (inl same) (omega (arith, count, end, after-above m here s))
+    ∙ kept-later m (after here s) behind (with_constant m here.section s.what before_it) here.section n none (inl same)
+    (omega (arith, count, end, after-above m here s))
     ∙ ap (λ (x : What). get_or (with_constant m here.section x before_it) w 0) is
     ∙ get_or-set_same before_it w (value m here.section constant) 0
     (omega (arith, count, end, after-above m here s, walked-above m (after here s) behind, goes, words-image m ss, long, length-constants m front before plain))

@@ -1,5 +1,6 @@
 -- The syllables of a list of words.
-use Rattle.std.proofs.Common.{◌≡◌, ℕ, zero, suc, ◌+◌, ◌-◌, ◌*◌, ◌/◌, ◌%◌, ◌^◌, ◌<◌, true, false, List, [], ◌∷◌, ◌++◌, length, get_or, replicate, inl, inr, refl, sym, ap, ◌∙◌, lit<, arith}
+use Rattle.std.proofs.Common.{◌≡◌, ℕ, zero, suc, ◌+◌, ◌-◌, ◌*◌, ◌/◌, ◌%◌, ◌^◌, ◌<◌, true, false, List, [], ◌∷◌, ◌++◌, length, get_or, replicate, inl, inr, refl}
+use Rattle.std.proofs.Common.{sym, ap, ◌∙◌, lit<, arith}
 use Rattle.std.proofs.lemmas.Bool.{cases_lt}
 use Rattle.std.proofs.lemmas.Bool.Decides.{nat_tests}
 use Rattle.std.proofs.lemmas.List.{get_or_append_left, get_or-append_right, get_or-append-add}
@@ -83,7 +84,8 @@ bytes-statement names here what is = bytes-spelt names here.section what is
 bytes-syllables : (names : Names) (here : Here) (ss : List Statement) → AreInRange ss → AreBytes (syllables names here ss)
 bytes-syllables names here [] are = bytes-filling here.at
 bytes-syllables names here (s ∷ ss) are =
-    bytes-append (syllables_of names here s.what) (syllables names (after here s) ss) (bytes-statement names here s.what are.0) (bytes-syllables names (after here s) ss are.1)
+    bytes-append (syllables_of names here s.what) (syllables names (after here s) ss) (bytes-statement names here s.what are.0)
+    (bytes-syllables names (after here s) ss are.1)
 
 bytes-jump : (target : ℕ) → target < 6 * 8192 → AreBytes (spelling (orders.Jump 0x20 target))
 bytes-jump target low = spelling-below (orders.Jump 0x20 target) (omega arith, low)
@@ -93,7 +95,8 @@ pub bytes-all : (names : Names) (here : Here) (ss : List Statement) → AreInRan
 bytes-all names here ss are =
     let jump = spelling (orders.Jump 0x20 (jump_target (start_of names))) in
     bytes-append (first_word names) (syllables names here ss)
-    (bytes-append jump (replicate 3 1) (bytes-jump (jump_target (start_of names)) (target_of-below (number (first_order names 0)))) (bytes-replicate 3 1 (lit< tt)))
+    (bytes-append jump (replicate 3 1) (bytes-jump (jump_target (start_of names)) (target_of-below (number (first_order names 0))))
+    (bytes-replicate 3 1 (lit< tt)))
     (bytes-syllables names here ss are)
 
 -- the syllables of words are those of which they were made
@@ -119,7 +122,8 @@ syllable-words_of (a ∷ b ∷ c ∷ d ∷ e ∷ f ∷ rest) k are lt =
     ]
 
 -- the element of a piece of a list
-pub get_or-middle : (all front mid back : List ℕ) (at k j : ℕ) → all ≡ front ++ (mid ++ back) → length front ≡ at → k ≡ at + j → j < length mid → get_or all k 0 ≡ get_or mid j 0
+pub get_or-middle : (all front mid back : List ℕ) (at k j : ℕ) → all ≡ front ++ (mid ++ back) → length front ≡ at → k ≡ at + j → j < length mid
+    → get_or all k 0 ≡ get_or mid j 0
 get_or-middle all front mid back at k j e len is lt =
     ap (λ (xs : List ℕ). get_or xs k 0) e
     ∙ ap (λ (i : ℕ). get_or (front ++ (mid ++ back)) i 0) (is ∙ ap (λ (n : ℕ). n + j) (sym len))

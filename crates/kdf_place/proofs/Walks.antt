@@ -41,7 +41,8 @@ pub in_range-append : (before behind : List Statement) → AreInRange (before ++
 in_range-append [] behind are = (tt, are)
 in_range-append (s ∷ before) behind are = let rest = in_range-append before behind are.1 in ((are.0, rest.0), rest.1)
 
-pub wrongs-append : (names : Names) (here : Here) (before behind : List Statement) → wrongs names here (before ++ behind) ≡ wrongs names here before ++ wrongs names (walked here before) behind
+pub wrongs-append : (names : Names) (here : Here) (before behind : List Statement)
+    → wrongs names here (before ++ behind) ≡ wrongs names here before ++ wrongs names (walked here before) behind
 wrongs-append names here [] behind = refl
 wrongs-append names here (s ∷ before) behind =
     let first : List Found = map (λ fault. found fault s.place) (wrong names here s.what) in
@@ -70,22 +71,30 @@ syllables-append names here (s ∷ before) behind =
 pub length-bytes : (names : Names) (here : Here) (ss : List Statement) → here.at + length (bytes names here ss) ≡ (walked here ss).at
 length-bytes names here [] = omega arith
 length-bytes names here (s ∷ ss) =
-    omega (arith, length-append (syllables_of names here s.what) (bytes names (after here s) ss), length-statement names here s.what, length-bytes names (after here s) ss)
+    omega (
+      arith,
+      length-append (syllables_of names here s.what) (bytes names (after here s) ss),
+      length-statement names here s.what,
+      length-bytes names (after here s) ss,
+    )
 
 -- where the search for the next order ends
-pub next_order-found : (here : Here) (between behind : List Statement) → AllPassed between → EndsAt behind → next_order here.at (between ++ behind) ≡ (walked here between).at
+pub next_order-found : (here : Here) (between behind : List Statement) → AllPassed between → EndsAt behind
+    → next_order here.at (between ++ behind) ≡ (walked here between).at
 next_order-found here [] [] passed ends = refl
 next_order-found here [] (s ∷ behind) passed ends = rw ends refl
 next_order-found here (s ∷ between) behind passed ends = rw passed.0 (next_order-found (after here s) between behind passed.1 ends)
 
-pub labels-append : (here : Here) (before behind : List Statement) → (first : List (Entry Mark)) × (labels here (before ++ behind) ≡ first ++ labels (walked here before) behind)
+pub labels-append : (here : Here) (before behind : List Statement) → (first : List (Entry Mark))
+    × (labels here (before ++ behind) ≡ first ++ labels (walked here before) behind)
 labels-append here [] behind = ([], refl)
 labels-append here (s ∷ before) behind =
     let one = label_at s.what here.section (next_order (after here s).at (before ++ behind)) s.place in
     let rest = labels-append (after here s) before behind in
     (one ++ rest.0, ap (λ (es : List (Entry Mark)). one ++ es) rest.1 ∙ sym (append_assoc one rest.0 (labels (walked (after here s) before) behind)))
 
-pub openings-append : (here : Here) (before behind : List Statement) → (first : List (Entry Opening)) × (openings here (before ++ behind) ≡ first ++ openings (walked here before) behind)
+pub openings-append : (here : Here) (before behind : List Statement) → (first : List (Entry Opening))
+    × (openings here (before ++ behind) ≡ first ++ openings (walked here before) behind)
 openings-append here [] behind = ([], refl)
 openings-append here (s ∷ before) behind =
     let one = opening (part_opened s.what) (after here s).section (next_order (after here s).at (before ++ behind)) s.place in

@@ -1,5 +1,6 @@
 -- What parts, references and stores mean: the first statement that says so.
-use Rattle.std.specs.Prelude.{ℕ, ◌+◌, ◌==◌, ◌&&◌, nat_lt, List, [], ◌∷◌, ◌++◌, get_or, set, replicate, take, sum, Option, Some, None, Result, Ok, Err, if◌then◌else◌}
+use Rattle.std.specs.Prelude.{ℕ, ◌+◌, ◌==◌, ◌&&◌, nat_lt, List, [], ◌∷◌, ◌++◌, get_or, set, replicate, take, sum, Option, Some, None, Result, Ok, Err}
+use Rattle.std.specs.Prelude.{if◌then◌else◌}
 use Rattle.kdf_usercode.specs.declared.fault.DeckFault.{DeckFault}
 use Rattle.kdf_usercode.specs.declared.fault.DeckFault.TheVariants.{ReferenceMissing, PartMissing, VRange, YRange}
 use Rattle.kdf_usercode.specs.declared.statement.Named.{Named}

@@ -10,7 +10,8 @@ use Rattle.kdf_transfer.proofs.Codes.{length-codes}
 use Rattle.kdf_places.specs.Transfers.{IsFreeArea}
 
 -- one word more
-pub text_more : (f : ℕ → ℕ) (first i : ℕ) → codes_of_all (map f (range_with_len first i)) ++ codes_of (f (first + i)) ≡ codes_of_all (map f (range_with_len first (i + 1)))
+pub text_more : (f : ℕ → ℕ) (first i : ℕ) → codes_of_all (map f (range_with_len first i)) ++ codes_of (f (first + i)) ≡ codes_of_all
+    (map f (range_with_len first (i + 1)))
 text_more f first i =
     flat_map_more codes_of [] (map f (range_with_len first i)) (f (first + i))
     ∙ ap codes_of_all (sym (map-range_with_len_more f first i (first + i) refl))

@@ -1,5 +1,6 @@
 -- The groups of a lease come back.
-use Rattle.std.proofs.Common.{◌≡◌, ◌≢◌, ℕ, ◌+◌, ◌-◌, ◌<◌, ◌≤◌, ◌⊎◌, inl, inr, true, false, List, [], ◌++◌, length, get_or, set, map, take, drop, Option, Some, None, refl, sym, ap, ◌∙◌, ⊎_elim, arith, length-append, length-take, length-drop}
+use Rattle.std.proofs.Common.{◌≡◌, ◌≢◌, ℕ, ◌+◌, ◌-◌, ◌<◌, ◌≤◌, ◌⊎◌, inl, inr, true, false, List, [], ◌++◌, length, get_or, set, map, take, drop, Option, Some}
+use Rattle.std.proofs.Common.{None, refl, sym, ap, ◌∙◌, ⊎_elim, arith, length-append, length-take, length-drop}
 use Rattle.std.proofs.Math.Path.{fun_ext}
 use Rattle.std.proofs.lemmas.Bool.{cases_Bool, cases_eq}
 use Rattle.std.proofs.lemmas.List.{length-set, length-map, get_or-map}
@@ -14,7 +15,8 @@ use Rattle.kdf_places.specs.Transfers.{back_cells, IsBack}
 use Rattle.kdf_places.proofs.GroupsKept.{leases-set, has_in, in_has}
 
 -- a group after some came back
-with_in : (cells : Cells) (l : Lent) (g : ℕ) → l.first + length l.groups ≤ length cells → l.first ≤ g → g < l.first + length l.groups → group_at (with_groups cells l) g ≡ Some (get_or l.groups (g - l.first) [])
+with_in : (cells : Cells) (l : Lent) (g : ℕ) → l.first + length l.groups ≤ length cells → l.first ≤ g → g < l.first + length l.groups
+    → group_at (with_groups cells l) g ≡ Some (get_or l.groups (g - l.first) [])
 unfolding with_groups
 with_in cells l g fits low high =
     let count : length (map Some l.groups) ≡ length l.groups = length-map l.groups Some in
@@ -23,18 +25,28 @@ with_in cells l g fits low high =
     ∙ splice_in cells (map Some l.groups) l.first g None (omega arith) low (omega arith)
     ∙ get_or-map Some l.groups (g - l.first) [] None i
 
-with_out : (cells : Cells) (l : Lent) (g : ℕ) → l.first + length l.groups ≤ length cells → (g < l.first) ⊎ (l.first + length l.groups ≤ g) → group_at (with_groups cells l) g ≡ group_at cells g
+with_out : (cells : Cells) (l : Lent) (g : ℕ) → l.first + length l.groups ≤ length cells → (g < l.first) ⊎ (l.first + length l.groups ≤ g)
+    → group_at (with_groups cells l) g ≡ group_at cells g
 unfolding with_groups
 with_out cells l g fits out =
     let count : length (map Some l.groups) ≡ length l.groups = length-map l.groups Some in
-    let out' : (g < l.first) ⊎ (l.first + length (map Some l.groups) ≤ g) = ⊎_elim (λ (a : g < l.first). inl a) (λ (b : l.first + length l.groups ≤ g). inr (omega arith)) out in
+    let out' : (g < l.first) ⊎ (l.first + length (map Some l.groups) ≤ g) =
+    ⊎_elim (λ (a : g < l.first). inl a) (λ (b : l.first + length l.groups ≤ g). inr (omega arith)) out in
     ap (λ k. get_or (take l.first cells ++ (map Some l.groups ++ drop (l.first + k) cells)) g None) (sym count)
     ∙ splice_out cells (map Some l.groups) l.first g None (omega arith) out'
 
 length-with : (cells : Cells) (l : Lent) → l.first + length l.groups ≤ length cells → length (with_groups cells l) ≡ length cells
 unfolding with_groups
 length-with cells l fits =
-    omega (arith, length-append (take l.first cells) (map Some l.groups ++ drop (l.first + length l.groups) cells), length-append (map Some l.groups) (drop (l.first + length l.groups) cells), length-take l.first cells, length-drop (l.first + length l.groups) cells, length-map l.groups Some)
+    omega (
+      arith,
+      length-append (take l.first cells) (map Some l.groups ++ drop (l.first + length l.groups) cells),
+      length-append (map Some l.groups)
+          (drop (l.first + length l.groups) cells),
+      length-take l.first cells,
+      length-drop (l.first + length l.groups) cells,
+      length-map l.groups Some,
+    )
 
 back-is : (cells : Cells) (l : Lent) → with_groups cells l ≡ brought cells l
 unfolding with_groups
@@ -82,7 +94,8 @@ module _ (m : Shared) (d : ℕ) (y : Spot) (sound : IsSound m) (small : d < devi
       (λ (out : (g < l.first) ⊎ (l.first + length l.groups ≤ g)). out)
       (in_range l.first (length l.groups) g))
 
-  word_back : (l : Option Lent) → o ≡ l → (x : ℕ) → physical.word_at_place (back_cells l m.cells) (with_lease d None (leases_of m.spots)) x ≡ physical.word_at_place m.cells (leases_of m.spots) x
+  word_back : (l : Option Lent) → o ≡ l → (x : ℕ) → physical.word_at_place (back_cells l m.cells) (with_lease d None (leases_of m.spots)) x
+      ≡ physical.word_at_place m.cells (leases_of m.spots) x
   word_back None is x =
       ap (λ ls. physical.word_at_place m.cells ls x)
       (fun_ext

@@ -1,5 +1,6 @@
 -- Each group is here, or in exactly one lease.
-use Rattle.std.proofs.Common.{◌≡◌, ◌≢◌, ℕ, ◌+◌, ◌-◌, ◌/◌, ◌<◌, ◌≤◌, ◌⊎◌, false, List, length, set, Option, Some, None, is_none, cond, refl, sym, ap, ◌∙◌, ⊎_elim, arith, inl, inr, true, [], ◌++◌, get_or, map, take, drop, replicate, length-take, length-drop}
+use Rattle.std.proofs.Common.{◌≡◌, ◌≢◌, ℕ, ◌+◌, ◌-◌, ◌/◌, ◌<◌, ◌≤◌, ◌⊎◌, false, List, length, set, Option, Some, None, is_none, cond, refl, sym, ap, ◌∙◌}
+use Rattle.std.proofs.Common.{⊎_elim, arith, inl, inr, true, [], ◌++◌, get_or, map, take, drop, replicate, length-take, length-drop}
 use Rattle.std.proofs.Math.Path.{fun_ext}
 use Rattle.std.proofs.lemmas.Bool.{cases_eq, eq-eqb, ne_eqb, false_from_ne_true, and_parts, and_from, le-leb, lt-ltb, leb-true, ltb-true}
 use Rattle.std.proofs.lemmas.List.{get_or-set_same, get_or-set_other, length-replicate, get_or-replicate, length-map, get_or-map, get_or-take, get_or-drop}
@@ -31,11 +32,13 @@ here_apart s d g ws sound is =
     false_from_ne_true _ (λ has. cc (sym (sound.out d g has) ∙ is))
 
 -- the groups of a free area are here
-pub free_here : (s : Shared) (first last g : ℕ) → IsFreeArea s.cells first last → first / 32 ≤ g → g < first / 32 + touched first last → (ws : List ℕ) × (group_at s.cells g ≡ Some ws)
+pub free_here : (s : Shared) (first last g : ℕ) → IsFreeArea s.cells first last → first / 32 ≤ g → g < first / 32 + touched first last
+    → (ws : List ℕ) × (group_at s.cells g ≡ Some ws)
 free_here s first last g free low high =
     let i : g - first / 32 < touched first last = omega arith in
     let e : first / 32 + (g - first / 32) ≡ g = omega arith in
-    some_there (group_at s.cells g) (ap (is_out s.cells) (sym e) ∙ none_in_range (is_out s.cells) (first / 32) (touched first last) (g - first / 32) free.free i)
+    some_there (group_at s.cells g) (ap (is_out s.cells) (sym e) ∙ none_in_range (is_out s.cells) (first / 32) (touched first last) (g - first / 32) free.free
+    i)
   where
     some_there : (o : Option (List ℕ)) → is_none o ≡ false → (ws : List ℕ) × (o ≡ Some ws)
     some_there None h = cc
@@ -71,14 +74,16 @@ has_in l g low high = and_from _ _ (le-leb l.first g low) (lt-ltb g (l.first + l
 pub in_has : (l : Lent) (g : ℕ) → has_group (Some l) g ≡ true → (l.first ≤ g) × (g < l.first + length l.groups)
 in_has l g is = (leb-true l.first g (and_parts _ _ is).0, ltb-true g (l.first + length l.groups) (and_parts _ _ is).1)
 
-pub lent_full : (cells : Cells) (f n : ℕ) → f + n ≤ length cells → AreWhole cells → ((g : ℕ) → f ≤ g → g < f + n → (ws : List ℕ) × (group_at cells g ≡ Some ws)) → AreFull (lent_groups cells f n)
+pub lent_full : (cells : Cells) (f n : ℕ) → f + n ≤ length cells → AreWhole cells
+    → ((g : ℕ) → f ≤ g → g < f + n → (ws : List ℕ) × (group_at cells g ≡ Some ws)) → AreFull (lent_groups cells f n)
 unfolding lent_groups
 lent_full cells f n fits whole here i lt =
     let count : length (map words_in (take n (drop f cells))) ≤ n = omega (arith, length-map (take n (drop f cells)) words_in, length-take n (drop f cells)) in
     let within : i < n = omega arith in
     let inside : i < length (take n (drop f cells)) = omega (arith, length-map (take n (drop f cells)) words_in) in
     let is = here (f + i) (omega arith) (omega arith) in
-    ap length (get_or-map words_in (take n (drop f cells)) i None [] inside ∙ ap words_in (get_or-take n (drop f cells) i None within ∙ get_or-drop f cells i None ∙ is.1))
+    ap length (get_or-map words_in (take n (drop f cells)) i None [] inside
+    ∙ ap words_in (get_or-take n (drop f cells) i None within ∙ get_or-drop f cells i None ∙ is.1))
     ∙ whole (f + i) is.0 is.1
 
 pub lent_range : (cells : Cells) (f n : ℕ) → f + n ≤ length cells → ((lent_groups cells f n).first ≡ f) × (length (lent_groups cells f n).groups ≡ n)

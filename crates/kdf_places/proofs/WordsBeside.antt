@@ -1,5 +1,6 @@
 -- A word that is written leaves the others as they can be read.
-use Rattle.std.proofs.Common.{◌≡◌, ◌≢◌, ℕ, ◌+◌, ◌/◌, ◌%◌, ◌<◌, ◌≤◌, true, false, List, length, get_or, set, Option, Some, None, is_none, refl, sym, ap, ◌∙◌, subst, ⊎_elim, arith}
+use Rattle.std.proofs.Common.{◌≡◌, ◌≢◌, ℕ, ◌+◌, ◌/◌, ◌%◌, ◌<◌, ◌≤◌, true, false, List, length, get_or, set, Option, Some, None, is_none, refl, sym, ap, ◌∙◌}
+use Rattle.std.proofs.Common.{subst, ⊎_elim, arith}
 use Rattle.std.proofs.lemmas.Bool.{cases_eq, cases_lt}
 use Rattle.std.proofs.lemmas.List.{get_or_past, get_or-set_same, get_or-set_other}
 use Rattle.std.proofs.lemmas.List.FromFn.{get_or-map-range_with_len}
@@ -32,7 +33,8 @@ group_beside cells place w g here =
     (λ (other : g ≢ place / 32). ap is_none (get_or-set_other cells (place / 32) g (Some put) None other) ∙ here)
     (cases_eq g (place / 32))
 
-pub word_beside : (cells : Cells) (leases : ℕ → Option Lent) (place w x : ℕ) → x ≢ place → is_out cells (x / 32) ≡ false → word_at_place (with_word cells place w) leases x ≡ word_at_place cells leases x
+pub word_beside : (cells : Cells) (leases : ℕ → Option Lent) (place w x : ℕ) → x ≢ place → is_out cells (x / 32) ≡ false
+    → word_at_place (with_word cells place w) leases x ≡ word_at_place cells leases x
 word_beside cells leases place w x ne here =
     let words : List ℕ = words_in (group_at cells (place / 32)) in
     let put : List ℕ = set words (place % 32) w in
@@ -50,7 +52,9 @@ word_beside cells leases place w x ne here =
     (cases_eq (x / 32) (place / 32))
 
 -- so it is with the words of a window, which begins with a group
-pub own_beside : (base size a w b : ℕ) (cells : Cells) (leases : ℕ → Option Lent) → base % 32 ≡ 0 → b < size → b ≢ a → is_out cells (base / 32 + b / 32) ≡ false → get_or (own_words base size (with_word cells (base + a) w) leases) b 0 ≡ get_or (own_words base size cells leases) b 0
+pub own_beside : (base size a w b : ℕ) (cells : Cells) (leases : ℕ → Option Lent) → base % 32 ≡ 0 → b < size → b ≢ a
+    → is_out cells (base / 32 + b / 32) ≡ false → get_or (own_words base size (with_word cells (base + a) w) leases) b 0
+    ≡ get_or (own_words base size cells leases) b 0
 own_beside base size a w b cells leases aligned lt ne here =
     let group : (base + b) / 32 ≡ base / 32 + b / 32 = omega arith in
     let apart : base + b ≢ base + a = λ e. ne (omega arith) in

@@ -1,5 +1,6 @@
 -- Words that a transfer moves, as its program sees them.
-use Rattle.std.proofs.Common.{◌≡◌, ◌≢◌, ℕ, zero, suc, ◌+◌, ◌-◌, ◌/◌, ◌%◌, ◌<◌, ◌≤◌, ◌⊎◌, inl, inr, true, false, List, [], ◌∷◌, length, get_or, set, take, drop, Option, Some, None, cond, eqb, leb, ltb, ◌&&◌, refl, sym, ap, ◌∙◌, subst, ⊎_elim, arith}
+use Rattle.std.proofs.Common.{◌≡◌, ◌≢◌, ℕ, zero, suc, ◌+◌, ◌-◌, ◌/◌, ◌%◌, ◌<◌, ◌≤◌, ◌⊎◌, inl, inr, true, false, List, [], ◌∷◌, length, get_or, set, take, drop}
+use Rattle.std.proofs.Common.{Option, Some, None, cond, eqb, leb, ltb, ◌&&◌, refl, sym, ap, ◌∙◌, subst, ⊎_elim, arith}
 use Rattle.std.proofs.Math.Path.{fun_ext}
 use Rattle.std.proofs.lemmas.Bool.{cases_Bool, cases_eq, and_parts, leb-true, ltb-true}
 use Rattle.std.proofs.lemmas.List.{get_or-set_same, get_or-set_other, length-set}
@@ -41,16 +42,20 @@ within-down first last a [] low high = tt
 within-down first last a (w ∷ []) low high = (omega arith, low, tt)
 within-down first last a (w ∷ v ∷ ws) low high = (omega arith, low, within-down first last (a - 1) (v ∷ ws) (omega arith) (omega arith))
 
-pub within-addressed : (o : TransferOrder) (first last : ℕ) (ws : List ℕ) → length ws ≤ last + 1 - first → first ≤ last → AreWithin first last (addressed o first last ws)
+pub within-addressed : (o : TransferOrder) (first last : ℕ) (ws : List ℕ) → length ws ≤ last + 1 - first → first ≤ last
+    → AreWithin first last (addressed o first last ws)
 within-addressed o first last ws few rising =
     ⊎_elim
-    (λ (is : is_backward o ≡ true). subst (λ b. AreWithin first last (cond b (down_addresses last ws) (at_addresses first ws))) (sym is) (within-down first last last ws (omega arith) (omega arith)))
-    (λ (not : is_backward o ≡ false). subst (λ b. AreWithin first last (cond b (down_addresses last ws) (at_addresses first ws))) (sym not) (within-at first last first ws (omega arith) (omega arith)))
+    (λ (is : is_backward o ≡ true). subst (λ b. AreWithin first last (cond b (down_addresses last ws) (at_addresses first ws))) (sym is)
+    (within-down first last last ws (omega arith) (omega arith)))
+    (λ (not : is_backward o ≡ false). subst (λ b. AreWithin first last (cond b (down_addresses last ws) (at_addresses first ws))) (sym not)
+    (within-at first last first ws (omega arith) (omega arith)))
     (cases_Bool (is_backward o))
 
 shift-at : (base a : ℕ) (ws : List ℕ) → at_addresses (base + a) ws ≡ shift base (at_addresses a ws)
 shift-at base a [] = refl
-shift-at base a (w ∷ ws) = ap (λ k. (base + a, w) ∷ at_addresses k ws) (let e : base + a + 1 ≡ base + (a + 1) = omega arith in e) ∙ ap (λ ms. (base + a, w) ∷ ms) (shift-at base (a + 1) ws)
+shift-at base a (w ∷ ws) = ap (λ k. (base + a, w) ∷ at_addresses k ws) (let e : base + a + 1 ≡ base + (a + 1) = omega arith in e)
+    ∙ ap (λ ms. (base + a, w) ∷ ms) (shift-at base (a + 1) ws)
 
 shift-down : (base a : ℕ) (ws : List ℕ) → length ws ≤ a + 1 → down_addresses (base + a) ws ≡ shift base (down_addresses a ws)
 shift-down base a [] few = refl
@@ -60,7 +65,8 @@ shift-down base a (w ∷ v ∷ ws) few =
     ∙ ap (λ ms. (base + a, w) ∷ ms) (shift-down base (a - 1) (v ∷ ws) (omega arith))
 
 -- the moves over an area of a window
-pub shift-addressed : (o : TransferOrder) (base first last : ℕ) (ws : List ℕ) → length ws ≤ last + 1 → addressed o (base + first) (base + last) ws ≡ shift base (addressed o first last ws)
+pub shift-addressed : (o : TransferOrder) (base first last : ℕ) (ws : List ℕ) → length ws ≤ last + 1
+    → addressed o (base + first) (base + last) ws ≡ shift base (addressed o first last ws)
 shift-addressed o base first last ws few =
     ⊎_elim
     (λ (is : is_backward o ≡ true).
@@ -87,7 +93,8 @@ has-with l place w g = ap (λ k. leb l.first g && ltb g (l.first + k)) (length-s
 
 pub full-with : (l : Lent) (place w : ℕ) → AreFull l → AreFull (with_lent_word l place w)
 full-with l place w full i lt =
-    let inside : i < length l.groups = omega (arith, length-set l.groups (place / 32 - l.first) (set (get_or l.groups (place / 32 - l.first) []) (place % 32) w)) in
+    let inside : i < length l.groups = omega
+    (arith, length-set l.groups (place / 32 - l.first) (set (get_or l.groups (place / 32 - l.first) []) (place % 32) w)) in
     ⊎_elim
     (λ (same : i ≡ place / 32 - l.first).
     let there : place / 32 - l.first < length l.groups = omega arith in
@@ -125,17 +132,21 @@ pub record IsLentAlone (store : Cells) (d : ℕ) (leases : ℕ → Option Lent) 
 abbrev pub HasAll : Lent → ℕ → ℕ → Type 0
 HasAll l first last = (place : ℕ) → first ≤ place → place ≤ last → has_group (Some l) (place / 32) ≡ true
 
-alone-with : (store : Cells) (d : ℕ) (leases : ℕ → Option Lent) (l : Lent) (place w : ℕ) → IsLentAlone store d leases l → IsLentAlone store d (with_lease d (Some (with_lent_word l place w)) leases) (with_lent_word l place w)
+alone-with : (store : Cells) (d : ℕ) (leases : ℕ → Option Lent) (l : Lent) (place w : ℕ) → IsLentAlone store d leases l
+    → IsLentAlone store d (with_lease d (Some (with_lent_word l place w)) leases) (with_lent_word l place w)
 alone-with store d leases l place w h =
     record {
       lent = with_lease_is d d (Some (with_lent_word l place w)) leases refl;
       full = full-with l place w h.full;
       out = λ g has. h.out g (sym (has-with l place w g) ∙ has);
-      alone = λ e g ne has. ap (λ x. has_group x g) (with_lease_other e d (Some (with_lent_word l place w)) leases ne) ∙ h.alone e g ne (sym (has-with l place w g) ∙ has);
+      alone = λ e g ne has. ap (λ x. has_group x g) (with_lease_other e d (Some (with_lent_word l place w)) leases ne)
+          ∙ h.alone e g ne (sym (has-with l place w g) ∙ has);
     }
 
 -- one word
-one_word : (store : Cells) (d : ℕ) (leases : ℕ → Option Lent) (l : Lent) (place w : ℕ) → d < device_count → IsLentAlone store d leases l → has_group (Some l) (place / 32) ≡ true → (x : ℕ) → physical.word_at_place store (with_lease d (Some (with_lent_word l place w)) leases) x ≡ cond (eqb x place) w (physical.word_at_place store leases x)
+one_word : (store : Cells) (d : ℕ) (leases : ℕ → Option Lent) (l : Lent) (place w : ℕ) → d < device_count → IsLentAlone store d leases l
+    → has_group (Some l) (place / 32) ≡ true → (x : ℕ) → physical.word_at_place store (with_lease d (Some (with_lent_word l place w)) leases) x
+    ≡ cond (eqb x place) w (physical.word_at_place store leases x)
 one_word store d leases l place w small h has x =
     let low = leb-true l.first (place / 32) (and_parts _ _ has).0 in
     let high = ltb-true (place / 32) (l.first + length l.groups) (and_parts _ _ has).1 in
@@ -144,7 +155,9 @@ one_word store d leases l place w small h has x =
     word_of-with_lent_word store leases d l place w small h.lent has (h.out (place / 32) has) (λ e ne. h.alone e (place / 32) ne has) within x
 
 -- the words of the program whose transfer it is
-pub puts_own : (store : Cells) (d base size first last : ℕ) (ms : List (ℕ × ℕ)) (l : Lent) (leases : ℕ → Option Lent) → d < device_count → IsLentAlone store d leases l → HasAll l (base + first) (base + last) → AreWithin first last ms → own_words base size store (with_lease d (Some (put_words (shift base ms) l)) leases) ≡ written ms (own_words base size store leases)
+pub puts_own : (store : Cells) (d base size first last : ℕ) (ms : List (ℕ × ℕ)) (l : Lent) (leases : ℕ → Option Lent) → d < device_count
+    → IsLentAlone store d leases l → HasAll l (base + first) (base + last) → AreWithin first last ms
+    → own_words base size store (with_lease d (Some (put_words (shift base ms) l)) leases) ≡ written ms (own_words base size store leases)
 puts_own store d base size first last [] l leases small h all within = ap (own_words base size store) (lease-same d (Some l) leases h.lent)
 puts_own store d base size first last (m ∷ ms) l leases small h all within =
     let low = within.0 in
@@ -153,11 +166,14 @@ puts_own store d base size first last (m ∷ ms) l leases small h all within =
     let leases' = with_lease d (Some l') leases in
     let has = all (base + m.0) (omega arith) (omega arith) in
     ap (own_words base size store) (sym (lease-twice d (Some (put_words (shift base ms) l')) (Some l') leases))
-    ∙ puts_own store d base size first last ms l' leases' small (alone-with store d leases l (base + m.0) m.1 h) (λ place a b. has-with l (base + m.0) m.1 (place / 32) ∙ all place a b) within.2
+    ∙ puts_own store d base size first last ms l' leases' small (alone-with store d leases l (base + m.0) m.1 h)
+    (λ place a b. has-with l (base + m.0) m.1 (place / 32) ∙ all place a b) within.2
     ∙ ap (written ms) (own_words_changed base size m.0 m.1 store store leases leases' (one_word store d leases l (base + m.0) m.1 small h has))
 
 -- the words of another program
-pub puts_other : (store : Cells) (d base first last base' size' : ℕ) (ms : List (ℕ × ℕ)) (l : Lent) (leases : ℕ → Option Lent) → d < device_count → IsLentAlone store d leases l → HasAll l (base + first) (base + last) → AreWithin first last ms → (base + last < base') ⊎ (base' + size' ≤ base + first) → own_words base' size' store (with_lease d (Some (put_words (shift base ms) l)) leases) ≡ own_words base' size' store leases
+pub puts_other : (store : Cells) (d base first last base' size' : ℕ) (ms : List (ℕ × ℕ)) (l : Lent) (leases : ℕ → Option Lent) → d < device_count
+    → IsLentAlone store d leases l → HasAll l (base + first) (base + last) → AreWithin first last ms → (base + last < base') ⊎ (base' + size' ≤ base + first)
+    → own_words base' size' store (with_lease d (Some (put_words (shift base ms) l)) leases) ≡ own_words base' size' store leases
 puts_other store d base first last base' size' [] l leases small h all within apart = ap (own_words base' size' store) (lease-same d (Some l) leases h.lent)
 puts_other store d base first last base' size' (m ∷ ms) l leases small h all within apart =
     let low = within.0 in
@@ -165,7 +181,9 @@ puts_other store d base first last base' size' (m ∷ ms) l leases small h all w
     let l' = with_lent_word l (base + m.0) m.1 in
     let leases' = with_lease d (Some l') leases in
     let has = all (base + m.0) (omega arith) (omega arith) in
-    let outside : (base + m.0 < base') ⊎ (base' + size' ≤ base + m.0) = ⊎_elim (λ (a : base + last < base'). inl (omega arith)) (λ (b : base' + size' ≤ base + first). inr (omega arith)) apart in
+    let outside : (base + m.0 < base') ⊎ (base' + size' ≤ base + m.0) = ⊎_elim (λ (a : base + last < base'). inl (omega arith))
+    (λ (b : base' + size' ≤ base + first). inr (omega arith)) apart in
     ap (own_words base' size' store) (sym (lease-twice d (Some (put_words (shift base ms) l')) (Some l') leases))
-    ∙ puts_other store d base first last base' size' ms l' leases' small (alone-with store d leases l (base + m.0) m.1 h) (λ place a b. has-with l (base + m.0) m.1 (place / 32) ∙ all place a b) within.2 apart
+    ∙ puts_other store d base first last base' size' ms l' leases' small (alone-with store d leases l (base + m.0) m.1 h)
+    (λ place a b. has-with l (base + m.0) m.1 (place / 32) ∙ all place a b) within.2 apart
     ∙ own_words_other base' size' (base + m.0) m.1 store store leases leases' outside (one_word store d leases l (base + m.0) m.1 small h has)

@@ -20,12 +20,14 @@ pub word_kept : (k k' : Stock) (a w b : ℕ) → k' ≡ at_once (Writes a w) k �
 word_kept k k' a w b is ne = ap (λ z. word_in z b) is ∙ get_or-set_other k.store a b w 0 ne
 
 -- so it is with a program by itself, whatever is answered
-pub stock_beside : (answer answer' : Question → ℕ) (k k' : Stock) (a w b x : ℕ) → k' ≡ at_once (Writes a w) k → b ≢ a → IsThere (by_itself answer k) b x → IsThere (by_itself answer' k') b x
+pub stock_beside : (answer answer' : Question → ℕ) (k k' : Stock) (a w b x : ℕ) → k' ≡ at_once (Writes a w) k → b ≢ a → IsThere (by_itself answer k) b x
+    → IsThere (by_itself answer' k') b x
 stock_beside answer answer' k k' a w b x is ne there =
     there_by (by_itself answer k) (by_itself answer' k') b x (ap (λ (z : Stock). z.claims.size) is) refl (word_kept k k' a w b is ne) there
 
 -- what is at hand agrees with what a program has by itself, whatever is answered
-pub agrees_with : (answer answer' : Question → ℕ) (k k' : Stock) (held : Option Buffer) → k' ≡ k → Agrees (by_itself answer k) held → Agrees (by_itself answer' k') held
+pub agrees_with : (answer answer' : Question → ℕ) (k k' : Stock) (held : Option Buffer) → k' ≡ k → Agrees (by_itself answer k) held
+    → Agrees (by_itself answer' k') held
 agrees_with answer answer' k k' None same agrees = tt
 agrees_with answer answer' k k' (Some b) same agrees =
     subst (λ z. IsHeld (by_itself answer' z) b) (sym same)

@@ -7,7 +7,8 @@ use Rattle.kdf_processor.specs.declared.step.Need.{Need}
 use Rattle.kdf_processor.specs.declared.step.Need.TheVariants.{Group, Device, Pool}
 use Rattle.kdf_processor.specs.declared.registers.Registers.{Registers}
 use Rattle.kdf_processor.specs.declared.step.Step.TheVariants.{Held}
-use Rattle.kdf_processor.specs.Effect.{Act, Asks, Question, Effect, Failing, Ending, Changing, Fetching, Keeping, Testing, Starting, Asking, Claiming, Returning, Spooling}
+use Rattle.kdf_processor.specs.Effect.{Act, Asks, Question, Effect, Failing, Ending, Changing, Fetching, Keeping, Testing, Starting, Asking, Claiming}
+use Rattle.kdf_processor.specs.Effect.{Returning, Spooling}
 use Rattle.kdf_processor.specs.Needs.{needs_at, next_effect}
 use Rattle.kdf_processor.specs.Outcome.{Outcome, outcome, held_or, went}
 use Rattle.kdf_processor.specs.Row.{at_once, taken, next_of, done_by, row}
@@ -55,7 +56,8 @@ pub never_held : (answer : Question → ℕ) (s : State) (need : Need) → (next
 never_held answer s need = done_not_held answer (next_effect s) s need
 
 -- and the registers and the stock that it leaves are those of the row
-pub row_alone : (k k' : Stock) (answer : Question → ℕ) (r r' : Registers) → r' ≡ (outcome (by_itself answer k) r).registers → k' ≡ at_once (outcome (by_itself answer k) r).act k → state r' k' ≡ row (state r k) answer
+pub row_alone : (k k' : Stock) (answer : Question → ℕ) (r r' : Registers) → r' ≡ (outcome (by_itself answer k) r).registers
+    → k' ≡ at_once (outcome (by_itself answer k) r).act k → state r' k' ≡ row (state r k) answer
 row_alone k k' answer r r' registers stock =
     let o = outcome_alone k answer r in
     ap (λ x. state x k') (registers ∙ ap (λ (x : Outcome). x.registers) o)

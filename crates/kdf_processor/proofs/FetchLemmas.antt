@@ -10,7 +10,8 @@ use Rattle.kdf_processor.specs.Plan.{try_decoded}
 use Rattle.kdf_processor.specs.View.{View, first_pending, is_pending}
 use Rattle.kdf_processor.proofs.Small.{found_more}
 
-later_front : {X : Type 0} (b : Bool) (x : X) (first all rest : Option X) → (first ≡ None → all ≡ rest) → cond b (Some x) first ≡ None → cond b (Some x) all ≡ rest
+later_front : {X : Type 0} (b : Bool) (x : X) (first all rest : Option X) → (first ≡ None → all ≡ rest) → cond b (Some x) first ≡ None
+    → cond b (Some x) all ≡ rest
 later_front true x first all rest f e = cc
 later_front false x first all rest f e = f e
 
@@ -20,14 +21,16 @@ found_later p [] ys e = refl
 found_later p (x ∷ xs) ys e = later_front (p x) x (find p xs) (find p (xs ++ ys)) (find p ys) (found_later p xs ys) e
 
 -- where the fetch isn't held up, the order is tried that is there, or the lack of one
-pub outcome_there : (v : View) (r : Registers) (o : Option Order) → None ≡ first_pending v (fetch_needs v.claims.size v.word r.at) → order_at v.claims.size v.word r.at ≡ o → outcome v r ≡ try_decoded v r o
+pub outcome_there : (v : View) (r : Registers) (o : Option Order) → None ≡ first_pending v (fetch_needs v.claims.size v.word r.at)
+    → order_at v.claims.size v.word r.at ≡ o → outcome v r ≡ try_decoded v r o
 outcome_there v r o none is =
     let e = effect_at v.claims v.word r in
     ap (λ n. held_or r n (done v r e)) (found_later (is_pending v) (fetch_needs v.claims.size v.word r.at) (effect_needs v.mine e) (sym none))
     ∙ ap (λ o1. try_effect v r (effect_or_liv v.claims r o1)) is
 
 -- where it is, nothing is done
-pub outcome_held : (v : View) (r : Registers) (g : ℕ) → Some (Group g) ≡ first_pending v (fetch_needs v.claims.size v.word r.at) → outcome v r ≡ held_or r (Some (Group g)) (done v r (effect_at v.claims v.word r))
+pub outcome_held : (v : View) (r : Registers) (g : ℕ) → Some (Group g) ≡ first_pending v (fetch_needs v.claims.size v.word r.at)
+    → outcome v r ≡ held_or r (Some (Group g)) (done v r (effect_at v.claims v.word r))
 outcome_held v r g held =
     let e = effect_at v.claims v.word r in
     ap (λ n. held_or r n (done v r e)) (found_more (is_pending v) (fetch_needs v.claims.size v.word r.at) (effect_needs v.mine e) (Group g) (sym held))

@@ -2,7 +2,8 @@
 -- kind isn't claimed; and a device goes back to the pool exactly where it is of the pool.
 use Rattle.std.specs.Prelude.{find}
 use Rattle.std.specs.List.{range_with_len}
-use Rattle.std.proofs.Common.{◌≡◌, ℕ, ◌+◌, ◌%◌, ◌^◌, ltb, eqb, Bool, true, false, ◌&&◌, cond, not, List, [], ◌∷◌, length, Option, Some, None, is_some, refl, sym, ap, ◌∙◌, subst, ⊎_elim}
+use Rattle.std.proofs.Common.{◌≡◌, ℕ, ◌+◌, ◌%◌, ◌^◌, ltb, eqb, Bool, true, false, ◌&&◌, cond, not, List, [], ◌∷◌, length, Option, Some, None, is_some, refl}
+use Rattle.std.proofs.Common.{sym, ap, ◌∙◌, subst, ⊎_elim}
 use Rattle.std.proofs.lemmas.Bool.{and_parts, cases_Bool, false≢true}
 use Rattle.kdf_journal.specs.declared.failure.Failure.TheVariants.{Liv, Nouv, Out, Claim}
 use Rattle.kdf_journal.specs.declared.kind.Kind.{Kind}
@@ -21,9 +22,12 @@ use Rattle.kdf_processor.proofs.Frees.{none_of_kind}
 use Rattle.kdf_transfer.specs.Devices.{Fixture, is_kind, is_wanted}
 use Rattle.kdf_transfer.specs.declared.wanted.Wanted.{Wanted}
 use Rattle.kdf_processor.specs.State.{Claims, device_limit, is_pooled, own_fixture_at}
-use Rattle.kdf_processor.specs.Effect.{Change, Refused, Going, of_change, Effect, Failing, Ending, Changing, Fetching, Keeping, Testing, Starting, Asking, IsBusy, IsOut, Time, OfService, FreeOf, Claiming, Returning, Spooling}
+use Rattle.kdf_processor.specs.Effect.{Change, Refused, Going, of_change, Effect, Failing, Ending, Changing, Fetching, Keeping, Testing, Starting, Asking}
+use Rattle.kdf_processor.specs.Effect.{IsBusy, IsOut, Time, OfService, FreeOf, Claiming, Returning, Spooling}
 use Rattle.kdf_processor.specs.Needs.{effect_at, effect_or_liv, order_at}
-use Rattle.kdf_processor.specs.Table.{answered_in_tr, asks_service, change_of, claims_found, claims_kind, claims_or_takes, device_effect, direct_effect, effect, guarded, has_bit, indirect_address, indirect_effect, indirect_half, is_area, moves, on_top, out_effect, plain_row, query_effect, sets_tr, spools, starts, transfer_of, with_nest}
+use Rattle.kdf_processor.specs.Table.{answered_in_tr, asks_service, change_of, claims_found, claims_kind, claims_or_takes, device_effect, direct_effect, effect}
+use Rattle.kdf_processor.specs.Table.{guarded, has_bit, indirect_address, indirect_effect, indirect_half, is_area, moves, on_top, out_effect, plain_row}
+use Rattle.kdf_processor.specs.Table.{query_effect, sets_tr, spools, starts, transfer_of, with_nest}
 
 abbrev pub IsFit : Claims → Effect → Type 0
 IsFit c (Asking (FreeOf kind) after) = may_take c kind ≡ true
@@ -126,13 +130,16 @@ free_own c wanted d e =
     wanted_own wanted (own_fixture_at c d)
     (and_parts (is_wanted wanted (own_fixture_at c d)) (not (is_claimed c d)) (found (is_free wanted c) (range_with_len 0 device_limit) d e)).0
 
-found_fit : (c : Claims) (r : Registers) (rest : List ℕ) (o : Option ℕ) → ((d : ℕ) → o ≡ Some d → is_some (own_fixture_at c d) ≡ true) → IsFit c (claims_found r rest o)
+found_fit : (c : Claims) (r : Registers) (rest : List ℕ) (o : Option ℕ) → ((d : ℕ) → o ≡ Some d → is_some (own_fixture_at c d) ≡ true)
+    → IsFit c (claims_found r rest o)
 found_fit c r rest None own = tt
 found_fit c r rest (Some d) own = own d refl
 
-takes_fit : (c : Claims) (r : Registers) (rest : List ℕ) (kind : Kind) (o : Option ℕ) → ((d : ℕ) → o ≡ Some d → is_some (own_fixture_at c d) ≡ true) → IsFit c (claims_or_takes c r rest kind o)
+takes_fit : (c : Claims) (r : Registers) (rest : List ℕ) (kind : Kind) (o : Option ℕ) → ((d : ℕ) → o ≡ Some d → is_some (own_fixture_at c d) ≡ true)
+    → IsFit c (claims_or_takes c r rest kind o)
 takes_fit c r rest kind (Some d) own = own d refl
-takes_fit c r rest kind None own = either_fit c (may_take c kind) (Asking (FreeOf kind) (λ a. with_nest 1 (taken c kind a ∷ rest) r)) (Failing Claim) (λ is. is) tt
+takes_fit c r rest kind None own = either_fit c (may_take c kind) (Asking (FreeOf kind) (λ a. with_nest 1 (taken c kind a ∷ rest) r)) (Failing Claim)
+    (λ is. is) tt
 
 kind_fit : (c : Claims) (r : Registers) (rest : List ℕ) (o : Option Kind) → IsFit c (claims_kind c r rest o)
 kind_fit c r rest None = tt
@@ -162,7 +169,8 @@ effect_fit c r (order.Indirect code k q) = guarded_fit c (indirect_effect r code
 effect_fit c r (order.Single code q) = change_fit c (change_of r (order.Single code q))
 effect_fit c r (order.Copies code q k) = change_fit c (change_of r (order.Copies code q k))
 effect_fit c r (order.Shift code by) = change_fit c (change_of r (order.Shift code by))
-effect_fit c r (order.Device code q) = guarded_fit c (device_effect r code (triple_at r.q q)) (starts_fit c r (triple_at r.q q) (transfer_of code (triple_at r.q q).m))
+effect_fit c r (order.Device code q) = guarded_fit c (device_effect r code (triple_at r.q q))
+    (starts_fit c r (triple_at r.q q) (transfer_of code (triple_at r.q q).m))
 effect_fit c r (order.Query b q) = guarded_fit c (query_effect r b (triple_at r.q q)) (query_fit c r b (triple_at r.q q))
 effect_fit c r (order.Jump x target) = change_fit c (change_of r (order.Jump x target))
 effect_fit c r (order.Exit n) = change_fit c (change_of r (order.Exit n))

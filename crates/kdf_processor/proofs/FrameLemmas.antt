@@ -1,5 +1,6 @@
 -- An order sees and changes only what it needs.
-use Rattle.std.proofs.Common.{◌≡◌, ℕ, zero, suc, ◌+◌, ◌/◌, ◌%◌, ltb, Bool, true, false, List, [], ◌∷◌, ◌++◌, map, set, Option, Some, None, refl, sym, ap, ap₂, ◌∙◌, subst, ⊎_elim, cond}
+use Rattle.std.proofs.Common.{◌≡◌, ℕ, zero, suc, ◌+◌, ◌/◌, ◌%◌, ltb, Bool, true, false, List, [], ◌∷◌, ◌++◌, map, set, Option, Some, None, refl, sym, ap, ap₂}
+use Rattle.std.proofs.Common.{◌∙◌, subst, ⊎_elim, cond}
 use Rattle.std.specs.Prelude.{find}
 use Rattle.std.specs.Option.{option_map}
 use Rattle.std.specs.List.{list_any}
@@ -20,9 +21,11 @@ use Rattle.kdf_processor.specs.declared.registers.Registers.{Registers}
 use Rattle.kdf_processor.specs.declared.spooled.Spooled.{Spooled}
 use Rattle.kdf_processor.specs.State.{State, Claims, Stint, word_at, device_at, fixture_at}
 use Rattle.kdf_processor.specs.Claims.{taken}
-use Rattle.kdf_processor.specs.Effect.{Question, FreeOf, Effect, Failing, Ending, Changing, Fetching, Keeping, Testing, Starting, Asking, Claiming, Returning, Spooling}
+use Rattle.kdf_processor.specs.Effect.{Question, FreeOf, Effect, Failing, Ending, Changing, Fetching, Keeping, Testing, Starting, Asking, Claiming, Returning}
+use Rattle.kdf_processor.specs.Effect.{Spooling}
 use Rattle.kdf_processor.specs.Table.{on}
-use Rattle.kdf_processor.specs.Needs.{group_of, decoded_or_none, effect_or_liv, syllable_at, syllables, syllable_needs, count_at, fetch_needs, effect_at, effect_needs, next_effect, needs}
+use Rattle.kdf_processor.specs.Needs.{group_of, decoded_or_none, effect_or_liv, syllable_at, syllables, syllable_needs, count_at, fetch_needs, effect_at}
+use Rattle.kdf_processor.specs.Needs.{effect_needs, next_effect, needs}
 use Rattle.kdf_processor.specs.Outcome.{counted}
 use Rattle.kdf_processor.specs.Row.{answered, handed, released, transferred, area_words, perform, row}
 use Rattle.kdf_processor.specs.View.{order_groups}
@@ -33,14 +36,29 @@ words_agree : (hidden : Need → Bool) (s t : State) → Agrees hidden s t → W
 words_agree hidden s t h = record { size = h.size; words = h.words }
 
 -- a transfer leaves states that agree such, if neither its device nor a group of its area is hidden
-transfer_agree : (hidden : Need → Bool) (d : ℕ) (o : TransferOrder) (first last : ℕ) (f : Option Fixture) (r r' : Registers) (s t : State) → r ≡ r' → Agrees hidden s t → HidesNone hidden (Device d ∷ map Group (order_groups o first last)) → Agrees hidden (record { registers = r; stock = transferred d o first last f s.stock }) (record { registers = r'; stock = transferred d o first last f t.stock })
+transfer_agree : (hidden : Need → Bool) (d : ℕ) (o : TransferOrder) (first last : ℕ) (f : Option Fixture) (r r' : Registers) (s t : State) → r ≡ r'
+    → Agrees hidden s t → HidesNone hidden (Device d ∷ map Group (order_groups o first last))
+    → Agrees hidden (record { registers = r; stock = transferred d o first last f s.stock })
+    (record { registers = r'; stock = transferred d o first last f t.stock })
 transfer_agree hidden d o first last None r r' s t e h none =
-    record { registers = e; claims = h.claims; spooled = h.spooled; asked = h.asked; stints = h.stints; size = h.size; number = h.number; words = h.words; devices = h.devices }
+    record {
+      registers = e;
+      claims = h.claims;
+      spooled = h.spooled;
+      asked = h.asked;
+      stints = h.stints;
+      size = h.size;
+      number = h.number;
+      words =
+          h.words;
+      devices = h.devices;
+    }
 transfer_agree hidden d o first last (Some f) r r' s t e h none =
     let parts = or_parts _ _ none in
     let device = h.devices d parts.0 in
     let words = order_words_agree hidden s.stock.store t.stock.store o first last (words_agree hidden s t h) parts.1 in
-    let same : device_after o first last (order_words o first last s.stock.store) f (device_at s d) ≡ device_after o first last (order_words o first last t.stock.store) f (device_at t d) = ap₂ (λ ws p. device_after o first last ws f p) words device in
+    let same : device_after o first last (order_words o first last s.stock.store) f (device_at s d) ≡ device_after o first last
+    (order_words o first last t.stock.store) f (device_at t d) = ap₂ (λ ws p. device_after o first last ws f p) words device in
     record {
       registers = e;
       claims = h.claims;
@@ -54,7 +72,8 @@ transfer_agree hidden d o first last (Some f) r r' s t e h none =
     }
 
 -- and so does an answer
-answered_agree : (hidden : Need → Bool) (question : Question) (a : ℕ) (r r' : Registers) (s t : State) → r ≡ r' → Agrees hidden s t → Agrees hidden (record { registers = r; stock = answered question a s.stock }) (record { registers = r'; stock = answered question a t.stock })
+answered_agree : (hidden : Need → Bool) (question : Question) (a : ℕ) (r r' : Registers) (s t : State) → r ≡ r' → Agrees hidden s t
+    → Agrees hidden (record { registers = r; stock = answered question a s.stock }) (record { registers = r'; stock = answered question a t.stock })
 answered_agree hidden (FreeOf kind) a r r' s t e h =
     record {
       registers = e;
@@ -68,10 +87,22 @@ answered_agree hidden (FreeOf kind) a r r' s t e h =
       devices = h.devices;
     }
 answered_agree hidden question a r r' s t e h =
-    record { registers = e; claims = h.claims; spooled = h.spooled; asked = ap (λ n. n + 1) h.asked; stints = h.stints; size = h.size; number = h.number; words = h.words; devices = h.devices }
+    record {
+      registers = e;
+      claims = h.claims;
+      spooled = h.spooled;
+      asked = ap (λ n. n + 1) h.asked;
+      stints = h.stints;
+      size = h.size;
+      number =
+          h.number;
+      words = h.words;
+      devices = h.devices;
+    }
 
 -- and a device that is given back, if it isn't hidden
-released_agree : (hidden : Need → Bool) (pooled : Bool) (d : ℕ) (r r' : Registers) (s t : State) → r ≡ r' → Agrees hidden s t → hidden (Device d) ≡ false → Agrees hidden (record { registers = r; stock = released pooled d s.stock }) (record { registers = r'; stock = released pooled d t.stock })
+released_agree : (hidden : Need → Bool) (pooled : Bool) (d : ℕ) (r r' : Registers) (s t : State) → r ≡ r' → Agrees hidden s t → hidden (Device d) ≡ false
+    → Agrees hidden (record { registers = r; stock = released pooled d s.stock }) (record { registers = r'; stock = released pooled d t.stock })
 released_agree hidden false d r r' s t e h free =
     record {
       registers = e;
@@ -98,15 +129,60 @@ released_agree hidden true d r r' s t e h free =
     }
 
 -- an effect leaves states that agree such, if nothing that it needs is hidden
-pub perform_agree : (hidden : Need → Bool) (mine : List ℕ) (answer : Question → ℕ) (e : Effect) (s t : State) → Agrees hidden s t → HidesNone hidden (effect_needs mine e) → Agrees hidden (perform answer e s) (perform answer e t)
+pub perform_agree : (hidden : Need → Bool) (mine : List ℕ) (answer : Question → ℕ) (e : Effect) (s t : State) → Agrees hidden s t
+    → HidesNone hidden (effect_needs mine e) → Agrees hidden (perform answer e s) (perform answer e t)
 perform_agree hidden mine answer (Failing kind) s t h none =
-    record { registers = ap (λ (r : Registers). counted r (Failed kind) r) h.registers; claims = h.claims; spooled = h.spooled; asked = h.asked; stints = h.stints; size = h.size; number = h.number; words = h.words; devices = h.devices }
+    record {
+      registers = ap (λ (r : Registers). counted r (Failed kind) r) h.registers;
+      claims = h.claims;
+      spooled = h.spooled;
+      asked = h.asked;
+      stints =
+          h.stints;
+      size = h.size;
+      number = h.number;
+      words = h.words;
+      devices = h.devices;
+    }
 perform_agree hidden mine answer (Ending after) s t h none =
-    record { registers = ap (λ (r : Registers). counted r Ended after) h.registers; claims = h.claims; spooled = h.spooled; asked = h.asked; stints = h.stints; size = h.size; number = h.number; words = h.words; devices = h.devices }
+    record {
+      registers = ap (λ (r : Registers). counted r Ended after) h.registers;
+      claims = h.claims;
+      spooled = h.spooled;
+      asked = h.asked;
+      stints =
+          h.stints;
+      size = h.size;
+      number = h.number;
+      words = h.words;
+      devices = h.devices;
+    }
 perform_agree hidden mine answer (Changing after) s t h none =
-    record { registers = ap (λ (r : Registers). counted r r.state after) h.registers; claims = h.claims; spooled = h.spooled; asked = h.asked; stints = h.stints; size = h.size; number = h.number; words = h.words; devices = h.devices }
+    record {
+      registers = ap (λ (r : Registers). counted r r.state after) h.registers;
+      claims = h.claims;
+      spooled = h.spooled;
+      asked = h.asked;
+      stints =
+          h.stints;
+      size = h.size;
+      number = h.number;
+      words = h.words;
+      devices = h.devices;
+    }
 perform_agree hidden mine answer (Fetching a after) s t h none =
-    record { registers = ap₂ (λ (r : Registers) w. counted r r.state (after w)) h.registers (h.words a (or_parts _ _ none).0); claims = h.claims; spooled = h.spooled; asked = h.asked; stints = h.stints; size = h.size; number = h.number; words = h.words; devices = h.devices }
+    record {
+      registers = ap₂ (λ (r : Registers) w. counted r r.state (after w)) h.registers (h.words a (or_parts _ _ none).0);
+      claims = h.claims;
+      spooled =
+          h.spooled;
+      asked = h.asked;
+      stints = h.stints;
+      size = h.size;
+      number = h.number;
+      words = h.words;
+      devices = h.devices;
+    }
 perform_agree hidden mine answer (Keeping a w after) s t h none =
     let same : w (word_at s a) ≡ w (word_at t a) = ap w (h.words a (or_parts _ _ none).0) in
     record {
@@ -121,16 +197,31 @@ perform_agree hidden mine answer (Keeping a w after) s t h none =
       devices = h.devices;
     }
 perform_agree hidden mine answer (Testing d what after) s t h none =
-    record { registers = ap₂ (λ (r : Registers) p. counted r r.state (after (test_of what p))) h.registers (h.devices d (or_parts _ _ none).0); claims = h.claims; spooled = h.spooled; asked = h.asked; stints = h.stints; size = h.size; number = h.number; words = h.words; devices = h.devices }
+    record {
+      registers = ap₂ (λ (r : Registers) p. counted r r.state (after (test_of what p))) h.registers (h.devices d (or_parts _ _ none).0);
+      claims =
+          h.claims;
+      spooled = h.spooled;
+      asked = h.asked;
+      stints = h.stints;
+      size = h.size;
+      number = h.number;
+      words = h.words;
+      devices = h.devices;
+    }
 perform_agree hidden mine answer (Starting d o first last after) s t h none =
-    let e : counted s.registers s.registers.state after ≡ counted t.registers t.registers.state after = ap (λ (r : Registers). counted r r.state after) h.registers in
+    let e : counted s.registers s.registers.state after ≡ counted t.registers t.registers.state after =
+    ap (λ (r : Registers). counted r r.state after) h.registers in
     subst
     (λ (c : Claims). Agrees hidden (perform answer (Starting d o first last after) s)
     (record { registers = counted t.registers t.registers.state after; stock = transferred d o first last (fixture_at c d) t.stock }))
     h.claims
-    (transfer_agree hidden d o first last (fixture_at s.stock.claims d) (counted s.registers s.registers.state after) (counted t.registers t.registers.state after) s t e h none)
+    (transfer_agree hidden d o first last (fixture_at s.stock.claims d) (counted s.registers s.registers.state after)
+    (counted t.registers t.registers.state after) s t e h none)
 perform_agree hidden mine answer (Asking question after) s t h none =
-    answered_agree hidden question (answer question) (counted s.registers s.registers.state (after (answer question))) (counted t.registers t.registers.state (after (answer question))) s t (ap (λ (r : Registers). counted r r.state (after (answer question))) h.registers) h
+    answered_agree hidden question (answer question) (counted s.registers s.registers.state (after (answer question)))
+    (counted t.registers t.registers.state (after (answer question))) s t (ap (λ (r : Registers). counted r r.state (after (answer question))) h.registers)
+    h
 perform_agree hidden mine answer (Claiming d after) s t h none =
     record {
       registers = ap (λ (r : Registers). counted r r.state after) h.registers;
@@ -144,9 +235,11 @@ perform_agree hidden mine answer (Claiming d after) s t h none =
       devices = h.devices;
     }
 perform_agree hidden mine answer (Returning pooled d after) s t h none =
-    released_agree hidden pooled d (counted s.registers s.registers.state after) (counted t.registers t.registers.state after) s t (ap (λ (r : Registers). counted r r.state after) h.registers) h (or_parts _ _ none).0
+    released_agree hidden pooled d (counted s.registers s.registers.state after) (counted t.registers t.registers.state after) s t
+    (ap (λ (r : Registers). counted r r.state after) h.registers) h (or_parts _ _ none).0
 perform_agree hidden mine answer (Spooling stream first last after) s t h none =
-    let same : area_words first last s.stock ≡ area_words first last t.stock = area_agree hidden s.stock.store t.stock.store first last (words_agree hidden s t h) none in
+    let same : area_words first last s.stock ≡ area_words first last t.stock = area_agree hidden s.stock.store t.stock.store first last
+    (words_agree hidden s t h) none in
     record {
       registers = ap (λ (r : Registers). counted r r.state after) h.registers;
       claims = h.claims;
@@ -160,7 +253,9 @@ perform_agree hidden mine answer (Spooling stream first last after) s t h none =
     }
 
 -- a transfer leaves what is hidden as it was, if neither its device nor a group of its area is hidden
-transfer_leaves : (hidden : Need → Bool) (d : ℕ) (o : TransferOrder) (first last : ℕ) (f : Option Fixture) (r : Registers) (s : State) → HidesNone hidden (Device d ∷ map Group (order_groups o first last)) → Leaves hidden s (record { registers = r; stock = transferred d o first last f s.stock })
+transfer_leaves : (hidden : Need → Bool) (d : ℕ) (o : TransferOrder) (first last : ℕ) (f : Option Fixture) (r : Registers) (s : State)
+    → HidesNone hidden (Device d ∷ map Group (order_groups o first last))
+    → Leaves hidden s (record { registers = r; stock = transferred d o first last f s.stock })
 transfer_leaves hidden d o first last None r s none =
     record { size = refl; number = refl; words = λ x is. refl; devices = λ x is. refl }
 transfer_leaves hidden d o first last (Some f) r s none =
@@ -172,27 +267,32 @@ transfer_leaves hidden d o first last (Some f) r s none =
       devices = λ x is. get_or-set_other s.stock.devices d x _ new_progress (λ e. false≢true (sym parts.0 ∙ (ap (λ y. hidden (Device y)) (sym e) ∙ is)));
     }
 
-answered_leaves : (hidden : Need → Bool) (question : Question) (a : ℕ) (r : Registers) (s : State) → Leaves hidden s (record { registers = r; stock = answered question a s.stock })
+answered_leaves : (hidden : Need → Bool) (question : Question) (a : ℕ) (r : Registers) (s : State)
+    → Leaves hidden s (record { registers = r; stock = answered question a s.stock })
 answered_leaves hidden (FreeOf kind) a r s = record { size = refl; number = refl; words = λ x is. refl; devices = λ x is. refl }
 answered_leaves hidden question a r s = record { size = refl; number = refl; words = λ x is. refl; devices = λ x is. refl }
 
-released_leaves : (hidden : Need → Bool) (pooled : Bool) (d : ℕ) (r : Registers) (s : State) → hidden (Device d) ≡ false → Leaves hidden s (record { registers = r; stock = released pooled d s.stock })
+released_leaves : (hidden : Need → Bool) (pooled : Bool) (d : ℕ) (r : Registers) (s : State) → hidden (Device d) ≡ false
+    → Leaves hidden s (record { registers = r; stock = released pooled d s.stock })
 released_leaves hidden false d r s free = record { size = refl; number = refl; words = λ x is. refl; devices = λ x is. refl }
 released_leaves hidden true d r s free =
     record {
       size = refl;
       number = sym (length-set s.stock.devices d new_progress);
       words = λ x is. refl;
-      devices = λ x is. get_or-set_other s.stock.devices d x new_progress new_progress (λ e. false≢true (sym free ∙ (ap (λ y. hidden (Device y)) (sym e) ∙ is)));
+      devices = λ x is. get_or-set_other s.stock.devices d x new_progress new_progress
+          (λ e. false≢true (sym free ∙ (ap (λ y. hidden (Device y)) (sym e) ∙ is)));
     }
 
 -- an effect leaves what is hidden as it was, if nothing that it needs is hidden
-pub perform_leaves : (hidden : Need → Bool) (mine : List ℕ) (answer : Question → ℕ) (e : Effect) (s : State) → HidesNone hidden (effect_needs mine e) → Leaves hidden s (perform answer e s)
+pub perform_leaves : (hidden : Need → Bool) (mine : List ℕ) (answer : Question → ℕ) (e : Effect) (s : State) → HidesNone hidden (effect_needs mine e)
+    → Leaves hidden s (perform answer e s)
 perform_leaves hidden mine answer (Keeping a w after) s none =
     record {
       size = sym (length-set s.stock.store a (w (word_at s a)));
       number = refl;
-      words = λ x is. get_or-set_other s.stock.store a x (w (word_at s a)) 0 (λ e. false≢true (sym (or_parts _ _ none).0 ∙ (ap (λ y. hidden (Group (group_of y))) (sym e) ∙ is)));
+      words = λ x is. get_or-set_other s.stock.store a x (w (word_at s a)) 0
+          (λ e. false≢true (sym (or_parts _ _ none).0 ∙ (ap (λ y. hidden (Group (group_of y))) (sym e) ∙ is)));
       devices = λ d is. refl;
     }
 perform_leaves hidden mine answer (Starting d o first last after) s none =
@@ -221,7 +321,8 @@ module _ (hidden : Need → Bool) (s t : State) (h : Agrees hidden s t) where
       (cases_Bool (ltb (at / 6) size))
 
   -- the same number of syllables
-  pub count_agree : (size at : ℕ) → (ltb (at / 6) size ≡ true → hidden (Group (group_of (at / 6))) ≡ false) → count_at size (word_at s) at ≡ count_at size (word_at t) at
+  pub count_agree : (size at : ℕ) → (ltb (at / 6) size ≡ true → hidden (Group (group_of (at / 6))) ≡ false)
+      → count_at size (word_at s) at ≡ count_at size (word_at t) at
   count_agree size at free =
       ⊎_elim
       (λ (inside : ltb (at / 6) size ≡ true).
@@ -243,31 +344,35 @@ count_more size word at inside =
     (n.0, ap (λ b. cond b (size_of_first (syllable_at word at)) 1) inside ∙ n.1)
 
 -- the group of the first syllable is among those of the order
-first_apart : (hidden : Need → Bool) (size : ℕ) (word : ℕ → ℕ) (at : ℕ) → ltb (at / 6) size ≡ true → HidesNone hidden (fetch_needs size word at) → hidden (Group (group_of (at / 6))) ≡ false
+first_apart : (hidden : Need → Bool) (size : ℕ) (word : ℕ → ℕ) (at : ℕ) → ltb (at / 6) size ≡ true → HidesNone hidden (fetch_needs size word at)
+    → hidden (Group (group_of (at / 6))) ≡ false
 first_apart hidden size word at inside none =
     let n = count_more size word at inside in
     let by_count = subst (λ k. HidesNone hidden (syllable_needs k size at)) n.1 none in
     (or_parts _ _ (subst (λ b. HidesNone hidden (cond b (Group (group_of (at / 6)) ∷ syllable_needs n.0 size (on at 1)) [])) inside by_count)).0
 
 -- the next orders of two states that agree have the same syllables, and do the same
-module _ (hidden : Need → Bool) (s t : State) (h : Agrees hidden s t) (none : HidesNone hidden (fetch_needs s.stock.claims.size (word_at s) s.registers.at)) where
-  counts_agree : count_at s.stock.claims.size (word_at s) s.registers.at ≡ count_at s.stock.claims.size (word_at t) s.registers.at
-  counts_agree = count_agree hidden s t h s.stock.claims.size s.registers.at (λ inside. first_apart hidden s.stock.claims.size (word_at s) s.registers.at inside none)
+module _ (hidden : Need → Bool) (s t : State) (h : Agrees hidden s t) (none : HidesNone hidden (fetch_needs s.stock.claims.size (word_at s) s.registers.at))
+  where
+    counts_agree : count_at s.stock.claims.size (word_at s) s.registers.at ≡ count_at s.stock.claims.size (word_at t) s.registers.at
+    counts_agree = count_agree hidden s t h s.stock.claims.size s.registers.at
+        (λ inside. first_apart hidden s.stock.claims.size (word_at s) s.registers.at inside none)
 
-  bytes_agree : syllables (count_at s.stock.claims.size (word_at s) s.registers.at) s.stock.claims.size (word_at s) s.registers.at ≡ syllables (count_at s.stock.claims.size (word_at t) s.registers.at) s.stock.claims.size (word_at t) s.registers.at
-  bytes_agree =
-      syllables_agree hidden s t h (count_at s.stock.claims.size (word_at s) s.registers.at) s.stock.claims.size s.registers.at none
-      ∙ ap (λ n. syllables n s.stock.claims.size (word_at t) s.registers.at) counts_agree
+    bytes_agree : syllables (count_at s.stock.claims.size (word_at s) s.registers.at) s.stock.claims.size (word_at s) s.registers.at
+        ≡ syllables (count_at s.stock.claims.size (word_at t) s.registers.at) s.stock.claims.size (word_at t) s.registers.at
+    bytes_agree =
+        syllables_agree hidden s t h (count_at s.stock.claims.size (word_at s) s.registers.at) s.stock.claims.size s.registers.at none
+        ∙ ap (λ n. syllables n s.stock.claims.size (word_at t) s.registers.at) counts_agree
 
-  pub effect_agree : next_effect s ≡ next_effect t
-  effect_agree =
-      ap (λ spelt. effect_or_liv s.stock.claims s.registers (decoded_or_none spelt)) bytes_agree
-      ∙ ap₂ (λ (c : Claims) (r : Registers). effect_at c (word_at t) r) h.claims h.registers
+    pub effect_agree : next_effect s ≡ next_effect t
+    effect_agree =
+        ap (λ spelt. effect_or_liv s.stock.claims s.registers (decoded_or_none spelt)) bytes_agree
+        ∙ ap₂ (λ (c : Claims) (r : Registers). effect_at c (word_at t) r) h.claims h.registers
 
-  pub fetch_agree : fetch_needs s.stock.claims.size (word_at s) s.registers.at ≡ fetch_needs t.stock.claims.size (word_at t) t.registers.at
-  fetch_agree =
-      ap (λ n. syllable_needs n s.stock.claims.size s.registers.at) counts_agree
-      ∙ ap₂ (λ (c : Claims) (r : Registers). fetch_needs c.size (word_at t) r.at) h.claims h.registers
+    pub fetch_agree : fetch_needs s.stock.claims.size (word_at s) s.registers.at ≡ fetch_needs t.stock.claims.size (word_at t) t.registers.at
+    fetch_agree =
+        ap (λ n. syllable_needs n s.stock.claims.size s.registers.at) counts_agree
+        ∙ ap₂ (λ (c : Claims) (r : Registers). fetch_needs c.size (word_at t) r.at) h.claims h.registers
 
 abbrev fetch_of : State → List Need
 fetch_of s = fetch_needs s.stock.claims.size (word_at s) s.registers.at
@@ -315,7 +420,8 @@ find_front p (x ∷ xs) ys zs any =
     (cases_Bool (p x))
 
 -- the first syllable's group comes first
-found_first : (wanted : Need → Bool) (size : ℕ) (word : ℕ → ℕ) (at : ℕ) (rest : List Need) → ltb (at / 6) size ≡ true → wanted (Group (group_of (at / 6))) ≡ true → find wanted (fetch_needs size word at ++ rest) ≡ Some (Group (group_of (at / 6)))
+found_first : (wanted : Need → Bool) (size : ℕ) (word : ℕ → ℕ) (at : ℕ) (rest : List Need) → ltb (at / 6) size ≡ true
+    → wanted (Group (group_of (at / 6))) ≡ true → find wanted (fetch_needs size word at ++ rest) ≡ Some (Group (group_of (at / 6)))
 found_first wanted size word at rest inside is =
     let n = count_more size word at inside in
     ap (λ k. find wanted (syllable_needs k size at ++ rest)) n.1

@@ -13,8 +13,10 @@ none_of_kind Cr = refl
 none_of_kind Lp = refl
 none_of_kind Mt = refl
 
-pub none_of_pool : (k : Kind) (pool : List (Option Kind)) (test : ℕ → Bool) → pool ≡ [] → (ds : List ℕ) → find (λ d. is_kind k (get_or pool d None) && test d) ds ≡ None
+pub none_of_pool : (k : Kind) (pool : List (Option Kind)) (test : ℕ → Bool) → pool ≡ [] → (ds : List ℕ)
+    → find (λ d. is_kind k (get_or pool d None) && test d) ds ≡ None
 none_of_pool k pool test none [] = refl
 none_of_pool k pool test none (d ∷ ds) =
-    ap (λ b. cond (b && test d) (Some d) (find (λ x. is_kind k (get_or pool x None) && test x) ds)) (ap (λ (ps : List (Option Kind)). is_kind k (get_or ps d None)) none ∙ none_of_kind k)
+    ap (λ b. cond (b && test d) (Some d) (find (λ x. is_kind k (get_or pool x None) && test x) ds))
+    (ap (λ (ps : List (Option Kind)). is_kind k (get_or ps d None)) none ∙ none_of_kind k)
     ∙ none_of_pool k pool test none ds

@@ -1,8 +1,10 @@
 -- What holds of the stints of a program holds at its start and after each order.
 use Rattle.std.specs.List.{All, AllPairs}
-use Rattle.std.proofs.Common.{◌≡◌, ◌≢◌, ℕ, zero, suc, ◌<◌, ◌≤◌, Bool, true, false, cond, eqb, ltb, not, ◌&&◌, List, [], ◌∷◌, ◌++◌, length, get_or, map, set, Option, Some, None, is_some, refl, sym, ap, ◌∙◌, subst, ⊎_elim, arith}
+use Rattle.std.proofs.Common.{◌≡◌, ◌≢◌, ℕ, zero, suc, ◌<◌, ◌≤◌, Bool, true, false, cond, eqb, ltb, not, ◌&&◌, List, [], ◌∷◌, ◌++◌, length, get_or, map, set}
+use Rattle.std.proofs.Common.{Option, Some, None, is_some, refl, sym, ap, ◌∙◌, subst, ⊎_elim, arith}
 use Rattle.std.proofs.lemmas.Bool.{and_parts, cases_Bool, cases_eq, cases_lt, eq-eqb, false_from_ne_true, false≢true}
-use Rattle.std.proofs.lemmas.List.{get_or_append_left, get_or_push, get_or-map, get_or-set_other, get_or-set_same, length-map, length-replicate, length-set, length_push}
+use Rattle.std.proofs.lemmas.List.{get_or_append_left, get_or_push, get_or-map, get_or-set_other, get_or-set_same, length-map, length-replicate, length-set}
+use Rattle.std.proofs.lemmas.List.{length_push}
 use Rattle.std.proofs.lemmas.List.Elements.{All-push}
 use Rattle.kdf_journal.specs.declared.failure.Failure.TheVariants.{Liv, Claim}
 use Rattle.kdf_journal.specs.declared.kind.Kind.{Kind}
@@ -14,11 +16,13 @@ use Rattle.kdf_transfer.specs.declared.order.TransferOrder.{TransferOrder}
 use Rattle.kdf_processor.specs.declared.registers.Registers.{Registers}
 use Rattle.kdf_transfer.specs.declared.test.Test.TheVariants.{Flag, Start, Mark}
 use Rattle.kdf_processor.specs.Claims.{can_take, claim, is_claimed, kind_at, taken}
-use Rattle.kdf_processor.specs.Effect.{Question, FreeOf, Change, Refused, Going, of_change, Effect, Failing, Ending, Changing, Fetching, Keeping, Testing, Starting, Asking, IsBusy, IsOut, Time, OfService, Claiming, Returning, Spooling}
+use Rattle.kdf_processor.specs.Effect.{Question, FreeOf, Change, Refused, Going, of_change, Effect, Failing, Ending, Changing, Fetching, Keeping, Testing}
+use Rattle.kdf_processor.specs.Effect.{Starting, Asking, IsBusy, IsOut, Time, OfService, Claiming, Returning, Spooling}
 use Rattle.kdf_processor.specs.Needs.{effect_at, effect_or_liv, next_effect, order_at}
 use Rattle.kdf_processor.specs.Row.{answered, handed, perform, released, row, transferred}
 use Rattle.kdf_transfer.specs.Slots.{Slot}
-use Rattle.kdf_processor.specs.State.{Claims, State, Stint, Stock, begin, stocked, unclaimed, device_in, device_limit, fixture_at, is_pooled, pool_kind_at, word_at}
+use Rattle.kdf_processor.specs.State.{Claims, State, Stint, Stock, begin, stocked, unclaimed, device_in, device_limit, fixture_at, is_pooled, pool_kind_at}
+use Rattle.kdf_processor.specs.State.{word_at}
 use Rattle.kdf_processor.specs.Stints.{HasPool, IsLent}
 use Rattle.kdf_processor.specs.Table.{effect, guarded, is_area}
 use Rattle.kdf_processor.proofs.Fit.{IsFit, next_fit}
@@ -67,7 +71,8 @@ change_begun c (Refused kind) = tt
 change_begun c (Going after) = tt
 
 effect_begun : (c : Claims) (r : Registers) (o : Order) → IsBegun c (effect c r o)
-effect_begun c r = each_effect c r (λ _. Unit {0}) (IsBegun c) (λ e _. guarded_begun c e) (change_begun c) tt (λ code k q. tt) (λ t u q a. tt) (λ code q. tt) (λ b q. tt)
+effect_begun c r = each_effect c r (λ _. Unit {0}) (IsBegun c) (λ e _. guarded_begun c e) (change_begun c) tt (λ code k q. tt) (λ t u q a. tt) (λ code q. tt)
+    (λ b q. tt)
 
 or_liv_begun : (c : Claims) (r : Registers) (o : Option Order) → IsBegun c (effect_or_liv c r o)
 or_liv_begun c r None = tt
@@ -90,7 +95,8 @@ claimed_mark false o is = cc
 
 -- and so has any that is claimed
 pub mark_claimed : (c : Claims) (d : ℕ) → is_claimed c d ≡ true → get_or c.claimed d false ≡ true
-mark_claimed c d is = (and_parts (ltb d device_limit) (get_or c.claimed d false) (claimed_mark (ltb d device_limit && get_or c.claimed d false) (kind_at c d) is)).1
+mark_claimed c d is = (and_parts (ltb d device_limit) (get_or c.claimed d false)
+    (claimed_mark (ltb d device_limit && get_or c.claimed d false) (kind_at c d) is)).1
 
 -- ---- marks
 
@@ -142,7 +148,8 @@ module _ (s : State) (lent : IsLent s) where
       }
 
   -- one of the pool is taken
-  pub taken_lent : (r : Registers) (kind : Kind) (a : ℕ) → can_take c kind (taken c kind a) ≡ true → IsLent (record { registers = r; stock = answered (FreeOf kind) a k })
+  pub taken_lent : (r : Registers) (kind : Kind) (a : ℕ) → can_take c kind (taken c kind a) ≡ true
+      → IsLent (record { registers = r; stock = answered (FreeOf kind) a k })
   taken_lent r kind a can =
       record {
         places = lent.places;
@@ -186,7 +193,8 @@ module _ (s : State) (lent : IsLent s) where
         few = lent.few;
         fresh = λ d pooled free. lent.fresh d pooled (sym (get_or-set_other c.claimed x d false false (other d pooled)) ∙ free);
         pooled = lent.pooled;
-        held = λ i y lt none. get_or-set_other c.claimed x (get_or k.stints i y).device false false (other (get_or k.stints i y).device (lent.pooled i y lt)) ∙ lent.held i y lt none;
+        held = λ i y lt none. get_or-set_other c.claimed x (get_or k.stints i y).device false false (other (get_or k.stints i y).device (lent.pooled i y lt))
+            ∙ lent.held i y lt none;
         one = lent.one;
       }
     where
@@ -205,7 +213,8 @@ module _ (s : State) (lent : IsLent s) where
       some_stint d left = record { device = d; left = Some left }
   open_then x p e None none =
       ⊎_elim
-      (λ (same : e ≡ x). cc (sym (ap (λ b. (cond (b && true) (let y : Stint = record { device = e; left = Some p } in y) (let y : Stint = record { device = e; left = None } in y)).left) (eq-eqb e x same)) ∙ none))
+      (λ (same : e ≡ x). cc (sym (ap (λ b. (cond (b && true) (let y : Stint = record { device = e; left = Some p } in y)
+      (let y : Stint = record { device = e; left = None } in y)).left) (eq-eqb e x same)) ∙ none))
       (λ (ne : e ≢ x). (refl, ne))
       (cases_eq e x)
 
@@ -225,8 +234,10 @@ module _ (s : State) (lent : IsLent s) where
         few = lent.few;
         fresh = λ d pooled free.
             ⊎_elim
-            (λ (same : d ≡ x). ap (device_in (released true x k)) same ∙ get_or-set_same k.devices x new_progress new_progress (omega (arith, lent.few x there, lent.places)))
-            (λ (ne : d ≢ x). get_or-set_other k.devices x d new_progress new_progress ne ∙ lent.fresh d pooled (sym (get_or-set_other c.claimed x d false false ne) ∙ free))
+            (λ (same : d ≡ x). ap (device_in (released true x k)) same
+            ∙ get_or-set_same k.devices x new_progress new_progress (omega (arith, lent.few x there, lent.places)))
+            (λ (ne : d ≢ x). get_or-set_other k.devices x d new_progress new_progress ne
+            ∙ lent.fresh d pooled (sym (get_or-set_other c.claimed x d false false ne) ∙ free))
             (cases_eq d x);
         pooled = λ i y lt.
             let low : i < length k.stints = omega (arith, length-map k.stints hand) in
@@ -241,8 +252,10 @@ module _ (s : State) (lent : IsLent s) where
         one = λ i j y less inside.
             let high : j < length k.stints = omega (arith, length-map k.stints hand) in
             let low : i < length k.stints = omega arith in
-            subst (λ z. z.left ≡ None → (get_or (map hand k.stints) j y).left ≡ None → z.device ≢ (get_or (map hand k.stints) j y).device) (sym (get_or-map hand k.stints i y y low))
-            (subst (λ z. (hand (get_or k.stints i y)).left ≡ None → z.left ≡ None → (hand (get_or k.stints i y)).device ≢ z.device) (sym (get_or-map hand k.stints j y y high))
+            subst (λ z. z.left ≡ None → (get_or (map hand k.stints) j y).left ≡ None → z.device ≢ (get_or (map hand k.stints) j y).device)
+            (sym (get_or-map hand k.stints i y y low))
+            (subst (λ z. (hand (get_or k.stints i y)).left ≡ None → z.left ≡ None → (hand (get_or k.stints i y)).device ≢ z.device)
+            (sym (get_or-map hand k.stints j y y high))
             (λ first second same.
             let one = open_then x p (get_or k.stints i y).device (get_or k.stints i y).left first in
             let other = open_then x p (get_or k.stints j y).device (get_or k.stints j y).left second in
@@ -256,7 +269,8 @@ module _ (s : State) (lent : IsLent s) where
       hand = handed x p
 
   -- a transfer is finished on a device that is claimed
-  pub moved_lent : (r : Registers) (d : ℕ) (o : TransferOrder) (first last : ℕ) (f : Option Fixture) → get_or c.claimed d false ≡ true → IsLent (record { registers = r; stock = transferred d o first last f k })
+  pub moved_lent : (r : Registers) (d : ℕ) (o : TransferOrder) (first last : ℕ) (f : Option Fixture) → get_or c.claimed d false ≡ true
+      → IsLent (record { registers = r; stock = transferred d o first last f k })
   moved_lent r d o first last None mark =
       record { places = lent.places; marks = lent.marks; few = lent.few; fresh = lent.fresh; pooled = lent.pooled; held = lent.held; one = lent.one }
   moved_lent r d o first last (Some f) mark =

@@ -10,7 +10,8 @@ use Rattle.kdf_processor.specs.Lone.{is_live, lone_step, lone}
 use Rattle.kdf_processor.proofs.RowFacts.{answered_asked, next_answer, released_asked, transferred_asked}
 
 -- an effect takes one answer, or none and then doesn't look at it
-asks_or_not : (e : Effect) (s : State) → ((answer : Question → ℕ) → (perform answer e s).stock.asked ≡ s.stock.asked + 1) ⊎ ((answer : Question → ℕ) → (perform answer e s).stock.asked ≡ s.stock.asked) × ((answer other : Question → ℕ) → perform answer e s ≡ perform other e s)
+asks_or_not : (e : Effect) (s : State) → ((answer : Question → ℕ) → (perform answer e s).stock.asked ≡ s.stock.asked + 1)
+    ⊎ ((answer : Question → ℕ) → (perform answer e s).stock.asked ≡ s.stock.asked) × ((answer other : Question → ℕ) → perform answer e s ≡ perform other e s)
 asks_or_not (Asking question after) s = inl (λ answer. answered_asked question (answer question) s.stock)
 asks_or_not (Returning pooled d after) s = inr (λ answer. released_asked pooled d s.stock, λ answer other. refl)
 asks_or_not (Starting d o first last after) s =
@@ -18,7 +19,8 @@ asks_or_not (Starting d o first last after) s =
 asks_or_not e s = inr (λ answer. refl, λ answer other. refl)
 
 -- a step takes one answer at most, and with xs many answers xs are taken after it, more of them change nothing
-row_answers : (xs ys : List ℕ) (s : State) → (s.stock.asked ≤ (row s (next_answer xs s)).stock.asked) × ((row s (next_answer xs s)).stock.asked ≤ length xs → row s (next_answer (xs ++ ys) s) ≡ row s (next_answer xs s))
+row_answers : (xs ys : List ℕ) (s : State) → (s.stock.asked ≤ (row s (next_answer xs s)).stock.asked)
+    × ((row s (next_answer xs s)).stock.asked ≤ length xs → row s (next_answer (xs ++ ys) s) ≡ row s (next_answer xs s))
 row_answers xs ys s =
     ⊎_elim
     (λ asks.
@@ -27,7 +29,8 @@ row_answers xs ys s =
     (λ none. (omega (arith, none.0 (next_answer xs s)), λ enough. none.1 (next_answer (xs ++ ys) s) (next_answer xs s)))
     (asks_or_not (next_effect s) s)
 
-step_answers : (xs ys : List ℕ) (s : State) → (s.stock.asked ≤ (lone_step xs s).stock.asked) × ((lone_step xs s).stock.asked ≤ length xs → lone_step (xs ++ ys) s ≡ lone_step xs s)
+step_answers : (xs ys : List ℕ) (s : State) → (s.stock.asked ≤ (lone_step xs s).stock.asked)
+    × ((lone_step xs s).stock.asked ≤ length xs → lone_step (xs ++ ys) s ≡ lone_step xs s)
 step_answers xs ys s =
     ⊎_elim
     (λ (live : is_live s.registers.state ≡ true). rw live (row_answers xs ys s))
@@ -67,6 +70,7 @@ stopped start xs n (suc m) over le =
     ∙ ap (λ b. cond b (row (lone start xs n) (next_answer xs (lone start xs n))) (lone start xs n)) over)
     (cases_lt m n)
 
-pub same_end : (start : State) (xs : List ℕ) (n m : ℕ) → is_live (lone start xs n).registers.state ≡ false → is_live (lone start xs m).registers.state ≡ false → lone start xs n ≡ lone start xs m
+pub same_end : (start : State) (xs : List ℕ) (n m : ℕ) → is_live (lone start xs n).registers.state ≡ false → is_live (lone start xs m).registers.state ≡ false
+    → lone start xs n ≡ lone start xs m
 same_end start xs n m over over' =
     ⊎_elim (λ (lt : n < m). sym (stopped start xs n m over (omega arith))) (λ (le : m ≤ n). stopped start xs m n over' le) (cases_lt n m)

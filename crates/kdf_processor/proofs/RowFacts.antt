@@ -32,11 +32,13 @@ transferred_claims : (d : ℕ) (o : TransferOrder) (first last : ℕ) (f : Optio
 transferred_claims d o first last None k = refl
 transferred_claims d o first last (Some f) k = refl
 
-transferred_store : (d : ℕ) (o : TransferOrder) (first last : ℕ) (f : Option Fixture) (k : Stock) → length (transferred d o first last f k).store ≡ length k.store
+transferred_store : (d : ℕ) (o : TransferOrder) (first last : ℕ) (f : Option Fixture) (k : Stock)
+    → length (transferred d o first last f k).store ≡ length k.store
 transferred_store d o first last None k = refl
 transferred_store d o first last (Some f) k = length-stored o first last f (device_in k d) k.store
 
-transferred_devices : (d : ℕ) (o : TransferOrder) (first last : ℕ) (f : Option Fixture) (k : Stock) → length (transferred d o first last f k).devices ≡ length k.devices
+transferred_devices : (d : ℕ) (o : TransferOrder) (first last : ℕ) (f : Option Fixture) (k : Stock)
+    → length (transferred d o first last f k).devices ≡ length k.devices
 transferred_devices d o first last None k = refl
 transferred_devices d o first last (Some f) k = length-set k.devices d _
 
@@ -195,7 +197,8 @@ pub pool_lone : (start : State) (answers : List ℕ) (n : ℕ) → (lone start a
 pool_lone start answers zero = refl
 pool_lone start answers (suc n) = step_pools answers (lone start answers n) ∙ pool_lone start answers n
 
-step_counts : (answers : List ℕ) (s : State) → (s.registers.ran ≤ (lone_step answers s).registers.ran) × ((lone_step answers s).registers.ran ≤ s.registers.ran + 1) × ((lone_step answers s).stock.asked ≤ s.stock.asked + 1)
+step_counts : (answers : List ℕ) (s : State) → (s.registers.ran ≤ (lone_step answers s).registers.ran)
+    × ((lone_step answers s).registers.ran ≤ s.registers.ran + 1) × ((lone_step answers s).stock.asked ≤ s.stock.asked + 1)
 step_counts answers s =
     ⊎_elim
     (λ (live : is_live s.registers.state ≡ true).
@@ -204,7 +207,8 @@ step_counts answers s =
     (cases_Bool (is_live s.registers.state))
 
 -- a lone run of n orders counts n at most, and takes n answers at most
-pub counts_lone : (start : State) (answers : List ℕ) (n : ℕ) → ((lone start answers n).registers.ran ≤ start.registers.ran + n) × ((lone start answers n).stock.asked ≤ start.stock.asked + n)
+pub counts_lone : (start : State) (answers : List ℕ) (n : ℕ) → ((lone start answers n).registers.ran ≤ start.registers.ran + n)
+    × ((lone start answers n).stock.asked ≤ start.stock.asked + n)
 counts_lone start answers zero = (omega arith, omega arith)
 counts_lone start answers (suc n) =
     let before = counts_lone start answers n in
@@ -220,7 +224,8 @@ pub live_step : (answers : List ℕ) (s : State) → is_live s.registers.state �
 live_step answers s live = ap (λ b. cond b (row s (next_answer answers s)) s) live
 
 -- a program that is live after n orders was live before each, and has counted n
-pub ran_live : (start : State) (answers : List ℕ) (n : ℕ) → is_live (lone start answers n).registers.state ≡ true → (lone start answers n).registers.ran ≡ start.registers.ran + n
+pub ran_live : (start : State) (answers : List ℕ) (n : ℕ) → is_live (lone start answers n).registers.state ≡ true
+    → (lone start answers n).registers.ran ≡ start.registers.ran + n
 ran_live start answers zero live = omega arith
 ran_live start answers (suc n) live =
     let s = lone start answers n in
@@ -242,7 +247,8 @@ released_served true d k = refl
 released_served false d k = refl
 
 served_perform : (answer : Question → ℕ) (e : Effect) (s : State) → (perform answer e s).stock.claims.served ≡ s.stock.claims.served
-served_perform answer (Starting d o first last after) s = ap (λ (c : Claims). c.served) (transferred_claims d o first last (fixture_at s.stock.claims d) s.stock)
+served_perform answer (Starting d o first last after) s =
+    ap (λ (c : Claims). c.served) (transferred_claims d o first last (fixture_at s.stock.claims d) s.stock)
 served_perform answer (Asking question after) s = answered_served question (answer question) s.stock
 served_perform answer (Returning pooled d after) s = released_served pooled d s.stock
 served_perform answer e s = refl

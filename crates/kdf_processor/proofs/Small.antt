@@ -1,5 +1,6 @@
 -- Orders that neither begin a transfer nor spool, by their first syllable.
-use Rattle.std.proofs.Common.{◌≡◌, ◌≢◌, ℕ, zero, suc, ◌+◌, ◌<◌, ◌^◌, ◌%◌, Bool, true, false, cond, eqb, ltb, List, [], ◌∷◌, ◌++◌, length, get_or, Option, Some, None, refl, sym, ap, subst, ◌∙◌, arith}
+use Rattle.std.proofs.Common.{◌≡◌, ◌≢◌, ℕ, zero, suc, ◌+◌, ◌<◌, ◌^◌, ◌%◌, Bool, true, false, cond, eqb, ltb, List, [], ◌∷◌, ◌++◌, length, get_or, Option, Some}
+use Rattle.std.proofs.Common.{None, refl, sym, ap, subst, ◌∙◌, arith}
 use Rattle.std.specs.Int.{IsInRange}
 use Rattle.std.specs.List.{All}
 use Rattle.std.proofs.lemmas.Bool.{ne_eqb}
@@ -24,11 +25,13 @@ use Rattle.kdf_processor.specs.Fetch.{IsFetchedAt}
 use Rattle.kdf_processor.specs.declared.fetch.Fetched.{Fetched}
 use Rattle.kdf_processor.specs.declared.fetch.Fetched.TheVariants.{Spelt, Bad, Held}
 use Rattle.kdf_processor.specs.State.{Claims}
-use Rattle.kdf_processor.specs.Effect.{Change, Refused, Going, of_change, Effect, Failing, Ending, Changing, Fetching, Keeping, Testing, Starting, Asking, IsBusy, IsOut, Time, OfService, FreeOf, Claiming, Returning, Spooling}
+use Rattle.kdf_processor.specs.Effect.{Change, Refused, Going, of_change, Effect, Failing, Ending, Changing, Fetching, Keeping, Testing, Starting, Asking}
+use Rattle.kdf_processor.specs.Effect.{IsBusy, IsOut, Time, OfService, FreeOf, Claiming, Returning, Spooling}
 use Rattle.kdf_processor.specs.Needs.{effect_or_liv, effect_needs, effect_at, needs_at, fetch_needs, order_at}
 use Rattle.kdf_processor.specs.Outcome.{Outcome, done, held_or, outcome, try_effect}
 use Rattle.kdf_processor.specs.Plan.{try_decoded}
-use Rattle.kdf_processor.specs.Table.{with_nest, room, on_top, plain_row, change_of, part_of, counts_on, moves, has_bit, indirect_address, indirect_half, indirect_effect, direct_effect, sets_tr, answered_in_tr, query_effect, guarded, effect}
+use Rattle.kdf_processor.specs.Table.{with_nest, room, on_top, plain_row, change_of, part_of, counts_on, moves, has_bit, indirect_address, indirect_half}
+use Rattle.kdf_processor.specs.Table.{indirect_effect, direct_effect, sets_tr, answered_in_tr, query_effect, guarded, effect}
 use Rattle.kdf_processor.specs.View.{View, is_pending, first_pending}
 
 -- an effect that neither begins a transfer, nor takes a device from the pool, nor asks the service, nor spools
@@ -171,13 +174,15 @@ spelt_first : (a : ℕ) (rest : List ℕ) (o : Order) → BeginsWith (a ∷ rest
 spelt_first a rest o begins =
     ap (λ s. get_or s 0 0) (sym begins) ∙ get_or-take (length (spelling o)) (a ∷ rest) 0 0 (length-spelling o).0
 
-some_small : (v : View) (r : Registers) (a b d : ℕ) (o : Order) → All (λ x. x < 2 ^ 8) (a ∷ b ∷ d ∷ []) → first_decoded (a ∷ b ∷ d ∷ []) ≡ Some o → a ≢ 0x21 → (IsInRange 0x70 0x7D a → ⊥) → IsSmall (try_decoded v r (Some o)).act
+some_small : (v : View) (r : Registers) (a b d : ℕ) (o : Order) → All (λ x. x < 2 ^ 8) (a ∷ b ∷ d ∷ []) → first_decoded (a ∷ b ∷ d ∷ []) ≡ Some o → a ≢ 0x21
+    → (IsInRange 0x70 0x7D a → ⊥) → IsSmall (try_decoded v r (Some o)).act
 some_small v r a b d o bytes e out transfer =
     let spelt = (first-exactly (a ∷ b ∷ d ∷ []) o refl bytes).0 e in
     let first = spelt_first a (b ∷ d ∷ []) o spelt.1 in
     small_effect v r (effect v.claims r o) (minor_mild v.claims r o (first_minor o a spelt.0 first out transfer))
 
-option_small : (v : View) (r : Registers) (a b d : ℕ) (x : Option Order) → All (λ x. x < 2 ^ 8) (a ∷ b ∷ d ∷ []) → first_decoded (a ∷ b ∷ d ∷ []) ≡ x → a ≢ 0x21 → (IsInRange 0x70 0x7D a → ⊥) → IsSmall (try_decoded v r x).act
+option_small : (v : View) (r : Registers) (a b d : ℕ) (x : Option Order) → All (λ x. x < 2 ^ 8) (a ∷ b ∷ d ∷ []) → first_decoded (a ∷ b ∷ d ∷ []) ≡ x
+    → a ≢ 0x21 → (IsInRange 0x70 0x7D a → ⊥) → IsSmall (try_decoded v r x).act
 option_small v r a b d None bytes e out transfer = small_effect v r (Failing Liv) tt
 option_small v r a b d (Some o) bytes e out transfer = some_small v r a b d o bytes e out transfer
 
@@ -187,13 +192,15 @@ three_bytes a b d ha hb hd (suc zero) e k = hb
 three_bytes a b d ha hb hd (suc (suc zero)) e k = hd
 three_bytes a b d ha hb hd (suc (suc (suc i))) e k = absurd (omega arith)
 
-none_mild : (c : Claims) (r : Registers) (a b d : ℕ) (x : Option Order) → All (λ y. y < 2 ^ 8) (a ∷ b ∷ d ∷ []) → first_decoded (a ∷ b ∷ d ∷ []) ≡ x → a ≢ 0x21 → (IsInRange 0x70 0x7D a → ⊥) → IsMild (effect_or_liv c r x)
+none_mild : (c : Claims) (r : Registers) (a b d : ℕ) (x : Option Order) → All (λ y. y < 2 ^ 8) (a ∷ b ∷ d ∷ []) → first_decoded (a ∷ b ∷ d ∷ []) ≡ x → a ≢ 0x21
+    → (IsInRange 0x70 0x7D a → ⊥) → IsMild (effect_or_liv c r x)
 none_mild c r a b d None bytes e out transfer = tt
 none_mild c r a b d (Some o) bytes e out transfer =
     let spelt = (first-exactly (a ∷ b ∷ d ∷ []) o refl bytes).0 e in
     minor_mild c r o (first_minor o a spelt.0 (spelt_first a (b ∷ d ∷ []) o spelt.1) out transfer)
 
-found_front : {X : Type 0} (p : X → Bool) (xs ys : List X) (x y : X) (b : Bool) → (find p xs ≡ Some x → find p (xs ++ ys) ≡ Some x) → cond b (Some y) (find p xs) ≡ Some x → cond b (Some y) (find p (xs ++ ys)) ≡ Some x
+found_front : {X : Type 0} (p : X → Bool) (xs ys : List X) (x y : X) (b : Bool) → (find p xs ≡ Some x → find p (xs ++ ys) ≡ Some x)
+    → cond b (Some y) (find p xs) ≡ Some x → cond b (Some y) (find p (xs ++ ys)) ≡ Some x
 found_front p xs ys x y true rest e = e
 found_front p xs ys x y false rest e = rest e
 
@@ -209,7 +216,8 @@ AreBytes Bad = Unit {0}
 AreBytes (Held g) = Unit {0}
 
 -- an order that was fetched acts on nothing large, where its first syllable is none of OUT or of a transfer
-pub small_fetched : (v : View) (r : Registers) (given : Fetched) → AreBytes given → IsFetchedAt v r.at given → may_want given ≡ false → IsSmall (outcome v r).act
+pub small_fetched : (v : View) (r : Registers) (given : Fetched) → AreBytes given → IsFetchedAt v r.at given → may_want given ≡ false
+    → IsSmall (outcome v r).act
 small_fetched v r (Spelt a b d) bytes is none =
     let out : a ≢ 0x21 = grind (arith, nat_tests) in
     let transfer : IsInRange 0x70 0x7D a → ⊥ = λ in_range. grind (arith, nat_tests) in

@@ -33,13 +33,15 @@ order_of_one v n a p s =
     let first = byte_is v n a p in
     rw (count_is v n a 1 p s, first.0, first.1) (by_size a 0 0 1 s)
 
-pub order_of_two : (v : View) (n a b : ℕ) → Byte a ≡ syllable_read v n → Byte b ≡ syllable_read v (on n 1) → size_of_first a ≡ 2 → order_at v.claims.size v.word n ≡ first_decoded (a ∷ b ∷ 0 ∷ [])
+pub order_of_two : (v : View) (n a b : ℕ) → Byte a ≡ syllable_read v n → Byte b ≡ syllable_read v (on n 1) → size_of_first a ≡ 2
+    → order_at v.claims.size v.word n ≡ first_decoded (a ∷ b ∷ 0 ∷ [])
 order_of_two v n a b p q s =
     let first = byte_is v n a p in
     let second = byte_is v (on n 1) b q in
     rw (count_is v n a 2 p s, first.0, second.0, first.1, second.1) (by_size a b 0 2 s)
 
-pub order_of_three : (v : View) (n a b c : ℕ) → Byte a ≡ syllable_read v n → Byte b ≡ syllable_read v (on n 1) → Byte c ≡ syllable_read v (on (on n 1) 1) → size_of_first a ≡ 3 → order_at v.claims.size v.word n ≡ first_decoded (a ∷ b ∷ c ∷ [])
+pub order_of_three : (v : View) (n a b c : ℕ) → Byte a ≡ syllable_read v n → Byte b ≡ syllable_read v (on n 1) → Byte c ≡ syllable_read v (on (on n 1) 1)
+    → size_of_first a ≡ 3 → order_at v.claims.size v.word n ≡ first_decoded (a ∷ b ∷ c ∷ [])
 order_of_three v n a b c p q r s =
     let first = byte_is v n a p in
     let second = byte_is v (on n 1) b q in

@@ -17,12 +17,14 @@ use Rattle.kdf_processor.specs.declared.look.Ahead.TheVariants as ahead
 use Rattle.kdf_processor.specs.declared.step.Need.{Need}
 use Rattle.kdf_processor.specs.Ahead.{act_word, ahead_word, word_ahead, word_asked, IsAhead, IsOrdinary, IsTaking}
 use Rattle.kdf_processor.specs.Claims.{claim, free_for, kind_numbered, may_take, taken}
-use Rattle.kdf_processor.specs.Effect.{Act, Nothing, Writes, Starts, Asks, Acquires, Releases, Spools, of_change, Effect, Failing, Ending, Changing, Fetching, Keeping, Testing, Starting, Asking, IsBusy, IsOut, Time, FreeOf, OfService, Claiming, Returning, Spooling}
+use Rattle.kdf_processor.specs.Effect.{Act, Nothing, Writes, Starts, Asks, Acquires, Releases, Spools, of_change, Effect, Failing, Ending, Changing, Fetching}
+use Rattle.kdf_processor.specs.Effect.{Keeping, Testing, Starting, Asking, IsBusy, IsOut, Time, FreeOf, OfService, Claiming, Returning, Spooling}
 use Rattle.kdf_processor.specs.Needs.{effect_at, effect_or_liv, needs_at, order_at}
 use Rattle.kdf_processor.specs.Outcome.{done, held_or, outcome}
 use Rattle.kdf_processor.specs.View.{View, first_pending}
 use Rattle.kdf_processor.specs.State.{Claims, is_pooled}
-use Rattle.kdf_processor.specs.Table.{asks_service, claims_found, claims_kind, claims_or_takes, device_effect, effect, guarded, is_area, on_top, out_effect, plain_row, spools, starts, transfer_of, with_nest}
+use Rattle.kdf_processor.specs.Table.{asks_service, claims_found, claims_kind, claims_or_takes, device_effect, effect, guarded, is_area, on_top, out_effect}
+use Rattle.kdf_processor.specs.Table.{plain_row, spools, starts, transfer_of, with_nest}
 use Rattle.kdf_processor.proofs.Small.{IsMild, change_mild, guarded_mild, minor_mild}
 
 -- where an order of this effect asks the service, the program is served, and the nest tells the word
@@ -78,7 +80,8 @@ guarded_told c nest (Starting d o first last after) h =
     (either_no_ask (is_area c.size first last) (Starting d o first last after) (Failing Liv) refl refl) refl)
     refl)
 guarded_told c nest (Asking (IsBusy d) after) h = mild_told c nest (guarded c (Asking (IsBusy d) after)) (guarded_mild c (Asking (IsBusy d) after) tt)
-guarded_told c nest (Asking (IsOut first last) after) h = mild_told c nest (guarded c (Asking (IsOut first last) after)) (guarded_mild c (Asking (IsOut first last) after) tt)
+guarded_told c nest (Asking (IsOut first last) after) h = mild_told c nest (guarded c (Asking (IsOut first last) after))
+    (guarded_mild c (Asking (IsOut first last) after) tt)
 guarded_told c nest (Asking Time after) h = h
 guarded_told c nest (Asking (FreeOf kind) after) h = h
 guarded_told c nest (Asking (OfService word) after) h = h
@@ -114,7 +117,8 @@ both true true is = (refl, refl)
 both true false is = cc
 both false b is = cc
 
-asks_told : (c : Claims) (r : Registers) (number : ℕ) (below : List ℕ) → (eqb number 64 && c.served) ≡ true → IsTold c (number ∷ below) (on_top (Failing Nouv) below (λ n2 rest. asks_service r rest n2))
+asks_told : (c : Claims) (r : Registers) (number : ℕ) (below : List ℕ) → (eqb number 64 && c.served) ≡ true
+    → IsTold c (number ∷ below) (on_top (Failing Nouv) below (λ n2 rest. asks_service r rest n2))
 asks_told c r number [] is = none_told c (number ∷ []) (Failing Nouv) refl
 asks_told c r number (n2 ∷ rest) is =
     let parts = both (eqb number 64) c.served is in
@@ -129,10 +133,14 @@ out_told c r number below =
     let nest = number ∷ below in
     either_told c nest (eqb number 0) _ _ (λ _. none_told c nest _ refl)
     (either_told c nest (eqb number 3) _ _ (λ _. none_told c nest _ refl)
-    (either_told c nest (eqb number 4) _ _ (λ _. none_told c nest _ (top_no_ask below (λ n2 rest. claims_found r rest (free_for (Labelled n2) c)) (λ n2 rest. found_no_ask r rest (free_for (Labelled n2) c))))
-    (either_told c nest (eqb number 5) _ _ (λ _. none_told c nest _ (top_no_ask below (λ n2 rest. claims_kind c r rest (kind_numbered n2)) (λ n2 rest. kind_no_ask c r rest (kind_numbered n2))))
-    (either_told c nest (eqb number 6) _ _ (λ _. none_told c nest _ (top_no_ask below (λ n2 rest. Returning (is_pooled c n2) n2 (with_nest 1 rest r)) (λ n2 rest. refl)))
-    (either_told c nest (eqb number 8) _ _ (λ _. none_told c nest _ (top_no_ask below (λ n2 rest. spools r rest (triple_of n2)) (λ n2 rest. spools_no_ask r rest (triple_of n2))))
+    (either_told c nest (eqb number 4) _ _ (λ _. none_told c nest _
+    (top_no_ask below (λ n2 rest. claims_found r rest (free_for (Labelled n2) c)) (λ n2 rest. found_no_ask r rest (free_for (Labelled n2) c))))
+    (either_told c nest (eqb number 5) _ _ (λ _. none_told c nest _
+    (top_no_ask below (λ n2 rest. claims_kind c r rest (kind_numbered n2)) (λ n2 rest. kind_no_ask c r rest (kind_numbered n2))))
+    (either_told c nest (eqb number 6) _ _ (λ _. none_told c nest _
+    (top_no_ask below (λ n2 rest. Returning (is_pooled c n2) n2 (with_nest 1 rest r)) (λ n2 rest. refl)))
+    (either_told c nest (eqb number 8) _ _ (λ _. none_told c nest _
+    (top_no_ask below (λ n2 rest. spools r rest (triple_of n2)) (λ n2 rest. spools_no_ask r rest (triple_of n2))))
     (either_told c nest (eqb number 9) _ _ (λ _. none_told c nest _ refl)
     (either_told c nest (eqb number 64 && c.served) _ _ (asks_told c r number below) (none_told c nest (Failing Out) refl))))))))
 
@@ -193,7 +201,8 @@ done_word v r (Spooling stream first last after) = refl
 word_told : (v : View) (r : Registers) (word : ℕ) → act_word (outcome v r).act ≡ Some word → (v.claims.served ≡ true) × (word_ahead r.nest ≡ Some word)
 word_told v r word = by_need (first_pending v (needs_at v.claims v.word r v.mine))
   where
-    by_need : (o : Option Need) → act_word (held_or r o (done v r (effect_at v.claims v.word r))).act ≡ Some word → (v.claims.served ≡ true) × (word_ahead r.nest ≡ Some word)
+    by_need : (o : Option Need) → act_word (held_or r o (done v r (effect_at v.claims v.word r))).act ≡ Some word → (v.claims.served ≡ true)
+        × (word_ahead r.nest ≡ Some word)
     by_need (Some need) is = cc
     by_need None is =
         let told = next_told v.claims v.word r in

@@ -5,7 +5,8 @@ use Rattle.kdf_syllable.specs.declared.order.Order.TheVariants as order
 use Rattle.kdf_syllable.specs.Spelling.{IsQ}
 use Rattle.kdf_processor.specs.declared.plan.Access.{Access}
 use Rattle.kdf_processor.specs.declared.plan.Plan.{Plan}
-use Rattle.kdf_processor.specs.declared.plan.Plan.TheVariants.{Fail, End, Fetch, Keep, Count, Begin, Examine, Await, AskBusy, AskArea, AskTime, AskService, ClaimLabel, ClaimKind, GiveBack, Spool}
+use Rattle.kdf_processor.specs.declared.plan.Plan.TheVariants.{Fail, End, Fetch, Keep, Count, Begin, Examine, Await, AskBusy, AskArea, AskTime, AskService}
+use Rattle.kdf_processor.specs.declared.plan.Plan.TheVariants.{ClaimLabel, ClaimKind, GiveBack, Spool}
 use Rattle.kdf_processor.specs.declared.plan.Beginning.{Beginning}
 use Rattle.kdf_processor.specs.declared.registers.Registers.{Registers}
 use Rattle.kdf_transfer.specs.declared.test.Test.TheVariants.{Flag}
@@ -15,11 +16,13 @@ use Rattle.kdf_transfer.specs.Devices.{is_kind}
 use Rattle.kdf_transfer.specs.declared.wanted.Wanted.TheVariants.{Kinded, Labelled}
 use Rattle.kdf_processor.specs.Claims.{claim, is_claimed, free_for}
 use Rattle.kdf_processor.specs.Effect.{Act, Nothing, Acquires, of_change}
-use Rattle.kdf_processor.specs.Effect.{Effect, Failing, Ending, Changing, Fetching, Keeping, Testing, Starting, Asking, IsBusy, IsOut, Time, Returning, Spooling}
+use Rattle.kdf_processor.specs.Effect.{Effect, Failing, Ending, Changing, Fetching, Keeping, Testing, Starting, Asking, IsBusy, IsOut, Time, Returning}
+use Rattle.kdf_processor.specs.Effect.{Spooling}
 use Rattle.kdf_processor.specs.Needs.{effect_or_liv}
 use Rattle.kdf_processor.specs.Outcome.{Outcome, done, try_effect}
 use Rattle.kdf_processor.specs.View.{View}
-use Rattle.kdf_processor.specs.Table.{with_nest, part_of, with_part, counts_on, asks_service, effect, change_of, sets_tr, answered_in_tr, claims_found, claims_or_takes}
+use Rattle.kdf_processor.specs.Table.{with_nest, part_of, with_part, counts_on, asks_service, effect, change_of, sets_tr, answered_in_tr, claims_found}
+use Rattle.kdf_processor.specs.Table.{claims_or_takes}
 
 -- the top of a nest
 abbrev pub top : List ℕ → ℕ

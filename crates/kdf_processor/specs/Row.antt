@@ -1,5 +1,6 @@
 -- The state of a program by itself after its next order, a transfer being finished at once.
-use Rattle.std.specs.Prelude.{ℕ, ◌+◌, ◌-◌, ◌==◌, ◌&&◌, not, Bool, true, false, List, [], ◌∷◌, ◌++◌, map, take, drop, Option, Some, None, is_some, if◌then◌else◌, slice_set}
+use Rattle.std.specs.Prelude.{ℕ, ◌+◌, ◌-◌, ◌==◌, ◌&&◌, not, Bool, true, false, List, [], ◌∷◌, ◌++◌, map, take, drop, Option, Some, None, is_some, if◌then◌else◌}
+use Rattle.std.specs.Prelude.{slice_set}
 use Rattle.kdf_word.specs.Characters.{codes_of_all}
 use Rattle.kdf_media.specs.Media.{through_end}
 use Rattle.kdf_transfer.specs.AtOnce.{device_after, order_words, stored}

@@ -28,7 +28,8 @@ pub record Stint : Type 0 where
   pub device : ℕ
   pub left : Option Progress
 
--- what a program has beside its registers: that; what it spooled; how many answers it took; its stints, in the order in which the devices were taken; its words; and by number how far each device has come
+-- what a program has beside its registers: that; what it spooled; how many answers it took; its stints, in the order in which the devices were taken; its
+-- words; and by number how far each device has come
 pub record Stock : Type 0 where
   pub claims : Claims
   pub spooled : List Spooled

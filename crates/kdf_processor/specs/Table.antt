@@ -1,5 +1,6 @@
 -- The order table: what each order does, as a function of registers and claims alone.
-use Rattle.std.specs.Prelude.{ℕ, ◌+◌, ◌-◌, ◌*◌, ◌/◌, ◌%◌, ◌^◌, List, [], ◌∷◌, length, Bool, true, false, not, ◌&&◌, ◌||◌, Option, Some, None, if◌then◌else◌, nat_lt, nat_le, ◌==◌, ℤ}
+use Rattle.std.specs.Prelude.{ℕ, ◌+◌, ◌-◌, ◌*◌, ◌/◌, ◌%◌, ◌^◌, List, [], ◌∷◌, length, Bool, true, false, not, ◌&&◌, ◌||◌, Option, Some, None, if◌then◌else◌}
+use Rattle.std.specs.Prelude.{nat_lt, nat_le, ◌==◌, ℤ}
 use Rattle.kdf_word.specs.Words.{word_of, signed_16}
 use Rattle.kdf_word.specs.Characters.{half_of, with_half}
 use Rattle.kdf_syllable.specs.declared.amount.Amount.{Amount}
@@ -23,7 +24,8 @@ use Rattle.kdf_transfer.specs.Devices.{is_kind}
 use Rattle.kdf_transfer.specs.declared.wanted.Wanted.TheVariants.{Kinded, Labelled}
 use Rattle.kdf_processor.specs.Claims.{claim, is_claimed, free_for, kind_numbered, may_take, taken}
 use Rattle.kdf_processor.specs.Effect.{Change, Refused, Going, Decision, Undecided, Decided, of_change}
-use Rattle.kdf_processor.specs.Effect.{Effect, Failing, Ending, Changing, Fetching, Keeping, Testing, Starting, Asking, IsBusy, IsOut, Time, FreeOf, OfService, Claiming, Returning, Spooling}
+use Rattle.kdf_processor.specs.Effect.{Effect, Failing, Ending, Changing, Fetching, Keeping, Testing, Starting, Asking, IsBusy, IsOut, Time, FreeOf, OfService}
+use Rattle.kdf_processor.specs.Effect.{Claiming, Returning, Spooling}
 
 -- the syllable that follows n syllables on; they are counted modulo 6 times 8,192
 abbrev pub on : ℕ → ℕ → ℕ

@@ -11,7 +11,8 @@ use Rattle.kdf_transfer.specs.declared.test.Test.{Test}
 use Rattle.kdf_processor.specs.State.{Claims, Stock, word_in, device_in}
 use Rattle.kdf_processor.specs.Effect.{Question}
 
--- what a program has, and what of it is out of its reach: its claims, its words, what a test of a device tells, what an order that asks is answered, which groups are locked out, which devices are busy, of which kinds every device in the pool has a holder, and on which devices it has a transfer itself
+-- what a program has, and what of it is out of its reach: its claims, its words, what a test of a device tells, what an order that asks is answered, which
+-- groups are locked out, which devices are busy, of which kinds every device in the pool has a holder, and on which devices it has a transfer itself
 pub record View : Type 0 where
   pub claims : Claims
   -- the word at an address, also where its group is out

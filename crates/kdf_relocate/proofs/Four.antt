@@ -17,7 +17,9 @@ four (a ∷ b ∷ c ∷ d ∷ []) n = refl
 four (a ∷ b ∷ c ∷ d ∷ e ∷ xs) n = absurd (omega arith)
 
 -- four windows, each after the one before it
-pub windows_four : (xs : List ℕ) (w x y : Window) → length xs ≡ 4 → w ≡ window (1024 + get_or xs 0 0) (get_or xs 1 0) → x ≡ window (w.base + w.size) (get_or xs 2 0) → y ≡ window (x.base + x.size) (get_or xs 3 0) → window 1024 (get_or xs 0 0) ∷ w ∷ x ∷ y ∷ [] ≡ windows_from 1024 xs
+pub windows_four : (xs : List ℕ) (w x y : Window) → length xs ≡ 4 → w ≡ window (1024 + get_or xs 0 0) (get_or xs 1 0)
+    → x ≡ window (w.base + w.size) (get_or xs 2 0) → y ≡ window (x.base + x.size) (get_or xs 3 0)
+    → window 1024 (get_or xs 0 0) ∷ w ∷ x ∷ y ∷ [] ≡ windows_from 1024 xs
 windows_four xs w x y n ew ex ey =
     let a = get_or xs 0 0 in
     let b = get_or xs 1 0 in
@@ -31,7 +33,8 @@ windows_four xs w x y n ew ex ey =
     ∙ sym (ap (windows_from 1024) (four xs n))
 
 -- which lie in the store, where they fit together
-pub inside_four : (xs : List ℕ) (w x y : Window) → length xs ≡ 4 → sum xs ≤ 31744 → w ≡ window (1024 + get_or xs 0 0) (get_or xs 1 0) → x ≡ window (w.base + w.size) (get_or xs 2 0) → y ≡ window (x.base + x.size) (get_or xs 3 0) → All IsInStore (window 1024 (get_or xs 0 0) ∷ w ∷ x ∷ y ∷ [])
+pub inside_four : (xs : List ℕ) (w x y : Window) → length xs ≡ 4 → sum xs ≤ 31744 → w ≡ window (1024 + get_or xs 0 0) (get_or xs 1 0)
+    → x ≡ window (w.base + w.size) (get_or xs 2 0) → y ≡ window (x.base + x.size) (get_or xs 3 0) → All IsInStore (window 1024 (get_or xs 0 0) ∷ w ∷ x ∷ y ∷ [])
 inside_four xs w x y n fits ew ex ey =
     let all : sum xs ≡ 0 + get_or xs 0 0 + get_or xs 1 0 + get_or xs 2 0 + get_or xs 3 0 = ap sum (four xs n) in
     let wb : w.base ≡ 1024 + get_or xs 0 0 = ap (λ (k : Window). k.base) ew in

@@ -1,5 +1,6 @@
 -- The slots of a job without a fault are well formed, whatever the length of their decks.
-use Rattle.std.proofs.Common.{◌≡◌, ℕ, ◌+◌, ◌<◌, ◌≤◌, ◌%◌, Bool, true, false, cond, ◌||◌, List, [], ◌∷◌, ◌++◌, length, map, Option, Some, None, Result, Ok, Err, codes, refl, sym, ap, subst, ◌∙◌, arith, append_assoc, length-append}
+use Rattle.std.proofs.Common.{◌≡◌, ℕ, ◌+◌, ◌<◌, ◌≤◌, ◌%◌, Bool, true, false, cond, ◌||◌, List, [], ◌∷◌, ◌++◌, length, map, Option, Some, None, Result, Ok, Err}
+use Rattle.std.proofs.Common.{codes, refl, sym, ap, subst, ◌∙◌, arith, append_assoc, length-append}
 use Rattle.std.specs.Prelude.{is_none, nat_eq}
 use Rattle.std.specs.Option.{option_map, option_to_list}
 use Rattle.std.specs.List.{All, IsDistinct, flat_map, list_any}
@@ -18,9 +19,13 @@ use Rattle.kdf_journal.specs.declared.kind.Kind.TheVariants.{Tr, Tp, Cr, Lp, Mt}
 use Rattle.kdf_job.specs.declared.fault.JobFault.{JobFault}
 use Rattle.kdf_job.specs.declared.fault.JobFault.TheVariants.{BadMedium}
 use Rattle.kdf_job.specs.declared.place.Place.{Place}
-use Rattle.kdf_job.specs.declared.place.Place.TheVariants.{First, BehindHeader, BehindSlot, BehindStore, InDeck, BehindDeck, BehindService, BehindDevice, BehindShow, BehindPool, InSchedule, BehindEnd}
-use Rattle.kdf_job.specs.Draft.{SlotDraft, Draft, all_devices, blank, device_fault, fault_of, lent_fault, medium_fault, new_slot, number_at, numbers_in, numbers_of, numbers_told, pool_fault, slot_fault, slot_of, slots_told, store_fault, tells, with_line, with_line_of_medium, with_pool, words_in}
-use Rattle.kdf_job.specs.Forms.{Form, AHeader, ASlot, AStore, ADeck, ADeckLine, AnEndDeck, AService, ADevice, AMedium, AShow, APool, APoolDevice, ASchedule, AnEvent, AnEndJob, told_at}
+use Rattle.kdf_job.specs.declared.place.Place.TheVariants.{First, BehindHeader, BehindSlot, BehindStore, InDeck, BehindDeck, BehindService, BehindDevice}
+use Rattle.kdf_job.specs.declared.place.Place.TheVariants.{BehindShow, BehindPool, InSchedule, BehindEnd}
+use Rattle.kdf_job.specs.Draft.{SlotDraft, Draft, all_devices, blank, device_fault, fault_of, lent_fault, medium_fault, new_slot, number_at, numbers_in}
+use Rattle.kdf_job.specs.Draft.{numbers_of, numbers_told, pool_fault, slot_fault, slot_of, slots_told, store_fault, tells, with_line, with_line_of_medium}
+use Rattle.kdf_job.specs.Draft.{with_pool, words_in}
+use Rattle.kdf_job.specs.Forms.{Form, AHeader, ASlot, AStore, ADeck, ADeckLine, AnEndDeck, AService, ADevice, AMedium, AShow, APool, APoolDevice, ASchedule}
+use Rattle.kdf_job.specs.Forms.{AnEvent, AnEndJob, told_at}
 use Rattle.kdf_job.specs.Job.{JobDevice, SlotJob}
 use Rattle.kdf_job.specs.Kept.{AreTold, IsBegun}
 use Rattle.kdf_job.specs.Media.{added, codes_in, fits, new_device, with_codes, with_medium, word_of_text}
@@ -102,7 +107,8 @@ all_last : {X : Type 0} (P : X → Type 0) (xs : List X) (x : X) → All P (xs +
 all_last P xs x all = subst P (get_or-append_seam xs x [] x) (all (length xs) x (let n = length-append xs (x ∷ []) in omega arith))
 
 -- a line that changes the last slot alone
-slots_then : (form : Form) (d : Draft) (o : Option SlotDraft) → d.slot ≡ o → IsRead d → ((s : SlotDraft) → d.slot ≡ Some s → AreTold (map bare d.slots ++ bare (slot_of (tells form s)) ∷ []))
+slots_then : (form : Form) (d : Draft) (o : Option SlotDraft) → d.slot ≡ o → IsRead d
+    → ((s : SlotDraft) → d.slot ≡ Some s → AreTold (map bare d.slots ++ bare (slot_of (tells form s)) ∷ []))
     → AreTold (map bare (d.slots ++ option_to_list (option_map slot_of (option_map (tells form) o))))
 slots_then form d None is was then =
     subst (λ (o : Option SlotDraft). AreTold (map bare (d.slots ++ option_to_list (option_map slot_of o)))) is was.slots
@@ -113,7 +119,8 @@ begun_then form front None begun = begun
 begun_then form front (Some s) begun = tt
 
 -- the numbers of the devices are those before it
-same_numbers : (form : Form) (front : List SlotJob) (o : Option SlotDraft) → ((s : SlotDraft) → o ≡ Some s → ds (all_devices (tells form s)) ≡ ds (all_devices s))
+same_numbers : (form : Form) (front : List SlotJob) (o : Option SlotDraft)
+    → ((s : SlotDraft) → o ≡ Some s → ds (all_devices (tells form s)) ≡ ds (all_devices s))
     → numbers_of (front ++ option_to_list (option_map slot_of (option_map (tells form) o))) ≡ numbers_of (front ++ option_to_list (option_map slot_of o))
 same_numbers form front None same = refl
 same_numbers form front (Some s) same = numbers_same front (slot_of s) (slot_of (tells form s)) (same s refl)
@@ -172,7 +179,8 @@ begins d (Some s) p n is was few above least most groups room =
     let after : bares d ≡ map bare d.slots ++ bare (slot_of s) ∷ [] = last_is d s is in
     let lt : s.p < p = let h : slot_fault p (Some s) ≡ None = rw is at above in grind (arith, nat_tests) in
     let same : words_in (map bare d.slots ++ bare (slot_of s) ∷ []) ≡ words_in (slots_told d) = ap words_in (sym after) ∙ words_bare (slots_told d) in
-    rw after (slots_more (map bare d.slots) (bare (slot_of s)) (slot_of (new_slot p n)) (kept d s was is) lt (new_is_slot p n few least most groups) refl (omega arith))
+    rw after (slots_more (map bare d.slots) (bare (slot_of s)) (slot_of (new_slot p n)) (kept d s was is) lt (new_is_slot p n few least most groups) refl
+    (omega arith))
 
 groups_told : (n : ℕ) (slots : List SlotJob) → store_fault n slots ≡ None → n % 32 ≡ 0
 groups_told n slots free = grind (arith, nat_tests)
@@ -188,7 +196,8 @@ stored d p n place was least most free =
     record {
       slots =
           subst AreTold
-          (sym (with_last (slots_told d) (new_slot (number_at d.place) n) ∙ ap (λ (x : Place). bares d ++ slot_of (new_slot (number_at x) n) ∷ []) place)) slots;
+          (sym (with_last (slots_told d) (new_slot (number_at d.place) n) ∙ ap (λ (x : Place). bares d ++ slot_of (new_slot (number_at x) n) ∷ []) place))
+          slots;
       lent = was.lent;
       owned =
           subst (λ (ns : List ℕ). IsDistinct nat_eq (ns ++ numbers_in d.pool))
@@ -222,7 +231,8 @@ service_then d s was is =
 device_free : (n : ℕ) (kind : Kind) (label : List ℕ) (d : Draft) → device_fault n kind label d ≡ None → list_any (nat_eq n) (numbers_told d) ≡ false
 device_free n kind label d h = grind arith
 
-free_of_slots : (n : ℕ) (kind : Kind) (label : List ℕ) (d : Draft) → device_fault n kind label d ≡ None → list_any (nat_eq n) (numbers_of (slots_told d)) ≡ false
+free_of_slots : (n : ℕ) (kind : Kind) (label : List ℕ) (d : Draft) → device_fault n kind label d ≡ None
+    → list_any (nat_eq n) (numbers_of (slots_told d)) ≡ false
 free_of_slots n kind label d h =
     neither (list_any (nat_eq n) (numbers_of (slots_told d))) (list_any (nat_eq n) (numbers_in d.pool))
     (sym (list_any-append (nat_eq n) (numbers_of (slots_told d)) (numbers_in d.pool)) ∙ device_free n kind label d h)
@@ -254,7 +264,8 @@ device_then n kind label d s was is few free =
     let this = all_last IsSlot front old are.each in
     let more : ds new.devices ≡ ds old.devices ++ n ∷ [] = more_devices n kind label s in
     let same : numbers_of (front ++ old ∷ []) ≡ numbers_of (slots_told d) = ap numbers_of (sym (last_is d s is)) ∙ numbers_bare (slots_told d) in
-    let other : list_any (nat_eq n) (numbers_of (front ++ old ∷ [])) ≡ false = ap (λ (ns : List ℕ). list_any (nat_eq n) ns) same ∙ free_of_slots n kind label d free in
+    let other : list_any (nat_eq n) (numbers_of (front ++ old ∷ [])) ≡ false = ap (λ (ns : List ℕ). list_any (nat_eq n) ns) same
+    ∙ free_of_slots n kind label d free in
     let numbers = numbers_more front old new n more in
     slots_changed front old new are refl refl
     (record {
@@ -286,10 +297,12 @@ codes_number marked None x y e = absurd cc
 codes_number marked (Some codes) x y e =
     chosen_number (fits x.fixture.kind marked (length codes)) x (added x.fixture.kind marked codes x) y (added_number x.fixture.kind marked codes x) e
 
-found_numbers : (front : List JobDevice) (x : JobDevice) (o : Option JobDevice) → ((y : JobDevice) → o ≡ Some y → y.d ≡ x.d) → is_none o ≡ false → ds (front ++ option_to_list o) ≡ ds (front ++ x ∷ [])
+found_numbers : (front : List JobDevice) (x : JobDevice) (o : Option JobDevice) → ((y : JobDevice) → o ≡ Some y → y.d ≡ x.d) → is_none o ≡ false
+    → ds (front ++ option_to_list o) ≡ ds (front ++ x ∷ [])
 found_numbers front x None same some = absurd cc
 found_numbers front x (Some y) same some =
-    map-append (λ (z : JobDevice). z.d) front (y ∷ []) ∙ ap (λ (n : ℕ). ds front ++ n ∷ []) (same y refl) ∙ sym (map-append (λ (z : JobDevice). z.d) front (x ∷ []))
+    map-append (λ (z : JobDevice). z.d) front (y ∷ []) ∙ ap (λ (n : ℕ). ds front ++ n ∷ []) (same y refl)
+    ∙ sym (map-append (λ (z : JobDevice). z.d) front (x ∷ []))
 
 medium_numbers : (marked : Bool) (text : List ℕ) (front : List JobDevice) (o : Option JobDevice) → is_none (with_line_of_medium marked text o) ≡ false
     → ds (front ++ option_to_list (with_line_of_medium marked text o)) ≡ ds (front ++ option_to_list o)
@@ -329,7 +342,8 @@ medium_then marked text d s was is free =
     (subst (IsDistinct nat_eq) (sym (numbers_same front old new same)) are.apart)
 
 -- a device of the pool
-lent_then : (n : ℕ) (kind : Kind) (label : List ℕ) (d : Draft) → IsRead d → n ≤ 15 → pool_fault n kind label d ≡ None → IsRead (with_line (APoolDevice n kind label) d)
+lent_then : (n : ℕ) (kind : Kind) (label : List ℕ) (d : Draft) → IsRead d → n ≤ 15 → pool_fault n kind label d ≡ None
+    → IsRead (with_line (APoolDevice n kind label) d)
 lent_then n kind label d was few free =
     let form = APoolDevice n kind label in
     let right = after_free (list_any (nat_eq n) (numbers_told d)) (lent_fault kind label) free in
@@ -348,7 +362,8 @@ lent_then n kind label d was few free =
 
 -- ---- a line more
 
-with_form : (form : Form) (d : Draft) → IsRead d → IsInRange form → (is_store form ≡ true → (p : ℕ) × (d.place ≡ BehindSlot p)) → fault_of form d ≡ None → IsRead (with_line form d)
+with_form : (form : Form) (d : Draft) → IsRead d → IsInRange form → (is_store form ≡ true → (p : ℕ) × (d.place ≡ BehindSlot p)) → fault_of form d ≡ None
+    → IsRead (with_line form d)
 with_form AHeader d was range at free = unchanged AHeader d (with_line AHeader d) was refl refl refl (λ s. refl) tt
 with_form (ASlot p) d was range at free =
     unchanged (ASlot p) d (with_line (ASlot p) d) was refl refl refl (λ s. refl) (range, fault_then p d.slot free)
@@ -413,7 +428,8 @@ line_read : (d e : Draft) (line : List ℕ) → IsRead d → read_line d line �
 unfolding read_line
 line_read d e line was is = with_told_form d e line (told_at d.place line) refl was is
 
-behind : (n : ℕ) (d : Draft) (rest : List (List ℕ)) (r : Result Draft JobFault) → ((e : Draft) → r ≡ Ok e → fault_from (n + 1) e rest ≡ None → IsRead (draft_of e rest))
+behind : (n : ℕ) (d : Draft) (rest : List (List ℕ)) (r : Result Draft JobFault)
+    → ((e : Draft) → r ≡ Ok e → fault_from (n + 1) e rest ≡ None → IsRead (draft_of e rest))
     → behind_line n r (λ e. fault_from (n + 1) e rest) ≡ None → IsRead (draft_of (or_same d r) rest)
 behind n d rest (Err fault) then free = absurd cc
 behind n d rest (Ok e) then free = then e refl free

@@ -12,8 +12,12 @@ use Rattle.kdf_schedule.specs.declared.event.EventFault.TheVariants as event_fau
 use Rattle.kdf_schedule.specs.Events.{event}
 use Rattle.kdf_job.specs.declared.fault.JobFault.{JobFault}
 use Rattle.kdf_job.specs.declared.place.Place.{Place}
-use Rattle.kdf_job.specs.declared.place.Place.TheVariants.{First, BehindHeader, BehindSlot, BehindStore, InDeck, BehindDeck, BehindService, BehindDevice, BehindShow, BehindPool, InSchedule, BehindEnd}
-use Rattle.kdf_job.specs.Forms.{Form, AHeader, ASlot, AStore, ADeck, ADeckLine, AnEndDeck, AService, ADevice, AMedium, AShow, APool, APoolDevice, ASchedule, AnEndJob, Told, told, or_bad, alone, addresses, described, device_line, device_named, device_or_end, device_words, event_line, first_told, job_ends, kind_named, medium_line, no_medium, number_line, numbered, of_event, one_number, pool_device_or_end, pooled, service_or_device, show_line, slot_ends, slot_line, store_line, told_at}
+use Rattle.kdf_job.specs.declared.place.Place.TheVariants.{First, BehindHeader, BehindSlot, BehindStore, InDeck, BehindDeck, BehindService, BehindDevice}
+use Rattle.kdf_job.specs.declared.place.Place.TheVariants.{BehindShow, BehindPool, InSchedule, BehindEnd}
+use Rattle.kdf_job.specs.Forms.{Form, AHeader, ASlot, AStore, ADeck, ADeckLine, AnEndDeck, AService, ADevice, AMedium, AShow, APool, APoolDevice, ASchedule}
+use Rattle.kdf_job.specs.Forms.{AnEndJob, Told, told, or_bad, alone, addresses, described, device_line, device_named, device_or_end, device_words, event_line}
+use Rattle.kdf_job.specs.Forms.{first_told, job_ends, kind_named, medium_line, no_medium, number_line, numbered, of_event, one_number, pool_device_or_end}
+use Rattle.kdf_job.specs.Forms.{pooled, service_or_device, show_line, slot_ends, slot_line, store_line, told_at}
 
 -- the numbers are in their ranges
 abbrev pub IsInRange : Form → Type 0
@@ -75,12 +79,14 @@ spelt_fits P make None all = tt
 spelt_fits P make (Some n) all = all n refl
 
 -- a number in a range
-number_fits : (P : Form → Type 0) (make : ℕ → Form) (low high : ℕ) → ((n : ℕ) → low ≤ n → n ≤ high → P (make n)) → (word : List ℕ) → Fits P (told make (Some (or_bad (number_in low high word))))
+number_fits : (P : Form → Type 0) (make : ℕ → Form) (low high : ℕ) → ((n : ℕ) → low ≤ n → n ≤ high → P (make n)) → (word : List ℕ)
+    → Fits P (told make (Some (or_bad (number_in low high word))))
 number_fits P make low high all word =
     spelt_fits P make (number_in low high word)
     (λ n e. all n (low_range (is_number word) low high (value word) n e) (high_range (is_number word) low high (value word) n e))
 
-one_fits : (P : Form → Type 0) (make : ℕ → Form) (low high : ℕ) → ((n : ℕ) → low ≤ n → n ≤ high → P (make n)) → (rest : List (List ℕ)) → Fits P (told make (one_number low high rest))
+one_fits : (P : Form → Type 0) (make : ℕ → Form) (low high : ℕ) → ((n : ℕ) → low ≤ n → n ≤ high → P (make n)) → (rest : List (List ℕ))
+    → Fits P (told make (one_number low high rest))
 one_fits P make low high all [] = tt
 one_fits P make low high all (word ∷ []) = number_fits P make low high all word
 one_fits P make low high all (word ∷ other ∷ rest) = tt
@@ -89,7 +95,8 @@ told_if : (P : Form → Type 0) (make : ℕ → Form) (named : Bool) (o : Option
 told_if P make true o fits = fits
 told_if P make false o fits = tt
 
-line_fits : (P : Form → Type 0) (make : ℕ → Form) (name : List ℕ) (low high : ℕ) → ((n : ℕ) → low ≤ n → n ≤ high → P (make n)) → (line : List (List ℕ)) → Fits P (told make (number_line name low high line))
+line_fits : (P : Form → Type 0) (make : ℕ → Form) (name : List ℕ) (low high : ℕ) → ((n : ℕ) → low ≤ n → n ≤ high → P (make n)) → (line : List (List ℕ))
+    → Fits P (told make (number_line name low high line))
 line_fits P make name low high all [] = tt
 line_fits P make name low high all (first ∷ rest) = told_if P make (is_text name first) (one_number low high rest) (one_fits P make low high all rest)
 
@@ -123,7 +130,8 @@ device_words_fit (name ∷ rest) = named_fits IsElse (is_text (codes "DEVICE") n
 device_fits : (line : List ℕ) → Fits IsElse (device_line line)
 device_fits line = device_words_fit (words line)
 
-marked_fits : (plain marked : Bool) (text : List ℕ) → Fits IsElse (cond plain (Some (Ok (AMedium false text))) (cond marked (Some (Ok (AMedium true text))) None))
+marked_fits : (plain marked : Bool) (text : List ℕ)
+    → Fits IsElse (cond plain (Some (Ok (AMedium false text))) (cond marked (Some (Ok (AMedium true text))) None))
 marked_fits true marked text = (tt, refl)
 marked_fits false true text = (tt, refl)
 marked_fits false false text = tt
@@ -189,5 +197,6 @@ told_form BehindDevice line form e = first_fits IsElse (medium_line line ∷ dev
 told_form BehindShow line form e = first_fits IsElse (slot_ends line) form (ends_fit line) e
 told_form BehindPool line form e = first_fits IsElse (no_medium (medium_line line) ∷ pool_device_or_end line) form (pool_fits line) e
 told_form InSchedule line form e =
-    first_fits IsElse (event_line line ∷ alone (codes "ENDJOB") AnEndJob line ∷ []) form (event_fits line, (alone_fits IsElse (codes "ENDJOB") AnEndJob line (tt, refl), tt)) e
+    first_fits IsElse (event_line line ∷ alone (codes "ENDJOB") AnEndJob line ∷ []) form
+    (event_fits line, (alone_fits IsElse (codes "ENDJOB") AnEndJob line (tt, refl), tt)) e
 told_form BehindEnd line form e = absurd cc

@@ -1,5 +1,6 @@
 -- A program that was loaded from a slot is one of that slot.
-use Rattle.std.proofs.Common.{◌≡◌, ℕ, zero, suc, ◌+◌, ◌<◌, ◌==◌, ◌||◌, Bool, true, false, cond, List, [], ◌∷◌, Option, Some, None, is_some, ⊎_elim, refl, sym, subst, ◌∙◌, ap, arith}
+use Rattle.std.proofs.Common.{◌≡◌, ℕ, zero, suc, ◌+◌, ◌<◌, ◌==◌, ◌||◌, Bool, true, false, cond, List, [], ◌∷◌, Option, Some, None, is_some, ⊎_elim, refl, sym}
+use Rattle.std.proofs.Common.{subst, ◌∙◌, ap, arith}
 use Rattle.std.specs.List.{filter, list_any, range_with_len}
 use Rattle.std.specs.Prelude.{slice_index_or}
 use Rattle.std.proofs.lemmas.Bool.{cases_Bool}
@@ -89,6 +90,7 @@ program_of slot words answers n is =
     }
 
 -- and so is what it comes to, step by step
-pub ran_from : (slot : SlotJob) (words answers : List ℕ) (n : ℕ) (t s : State) → IsSlot slot → t ≡ begin (slot_of slot words) → s ≡ lone t answers n → IsProgramOf slot s
+pub ran_from : (slot : SlotJob) (words answers : List ℕ) (n : ℕ) (t s : State) → IsSlot slot → t ≡ begin (slot_of slot words) → s ≡ lone t answers n
+    → IsProgramOf slot s
 ran_from slot words answers n t s is at_start after =
     subst (IsProgramOf slot) (sym (after ∙ ap (λ (x : State). lone x answers n) at_start)) (program_of slot words answers n is)

@@ -20,7 +20,8 @@ use Rattle.kdf_report.proofs.FaultlessJobs.{bare, faultless}
 
 -- ---- an image fits its store
 
-if_fits : (large : Bool) (fault : Found) (picture : Picture) (size : ℕ) → (large ≡ false → length picture.words ≤ size) → length (words_or_none (cond large (Err fault) (Ok picture))) ≤ size
+if_fits : (large : Bool) (fault : Found) (picture : Picture) (size : ℕ) → (large ≡ false → length picture.words ≤ size)
+    → length (words_or_none (cond large (Err fault) (Ok picture))) ≤ size
 if_fits true fault picture size fits = omega arith
 if_fits false fault picture size fits = fits refl
 
@@ -63,7 +64,8 @@ have_bare (s ∷ slots) [] have = have
 have_bare (s ∷ slots) (words ∷ images) have = (have.0, have_bare slots images have.1)
 
 -- slots that are well formed but for their decks
-bare_slots : (slots : List SlotJob) (images : List (List ℕ)) → AreSlots (map bare slots) → HaveImages slots images → director.AreSlots (loading.slots_of slots images)
+bare_slots : (slots : List SlotJob) (images : List (List ℕ)) → AreSlots (map bare slots) → HaveImages slots images
+    → director.AreSlots (loading.slots_of slots images)
 bare_slots slots images are have =
     subst (λ (xs : List SlotLoad). director.AreSlots (map loading.slot_of xs)) (loads_bare slots images)
     (are_slots (loads (map bare slots) images) (are_loads (map bare slots) images are (have_bare slots images have)))

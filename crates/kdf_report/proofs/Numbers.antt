@@ -1,5 +1,6 @@
 -- The numbers of a program's devices, one by one.
-use Rattle.std.proofs.Common.{◌≡◌, ◌≢◌, ℕ, zero, suc, ◌+◌, ◌<◌, ◌≤◌, ◌||◌, Bool, true, false, cond, eqb, List, [], ◌∷◌, length, map, Option, Some, None, is_some, IsSomeAnd, IfSome, ⊎_elim, refl, sym, ◌∙◌, ap, arith}
+use Rattle.std.proofs.Common.{◌≡◌, ◌≢◌, ℕ, zero, suc, ◌+◌, ◌<◌, ◌≤◌, ◌||◌, Bool, true, false, cond, eqb, List, [], ◌∷◌, length, map, Option, Some, None}
+use Rattle.std.proofs.Common.{is_some, IsSomeAnd, IfSome, ⊎_elim, refl, sym, ◌∙◌, ap, arith}
 use Rattle.std.specs.Prelude.{slice_get, unwrap_or}
 use Rattle.std.specs.List.{filter, list_any, range_with_len}
 use Rattle.std.proofs.lemmas.Bool.{cases_eq, eq-eqb, ne_eqb}
@@ -59,7 +60,8 @@ passes_there p a (suc n) k low high =
 -- ---- devices of a program and of its slot
 
 -- a program has a device of a number where its slot has
-pub has_own : (slot : SlotJob) (s : State) (d : ℕ) → d < device_limit → own_numbers s ≡ device_numbers slot → has_device slot d ≡ is_some (own_fixture_at s.stock.claims d)
+pub has_own : (slot : SlotJob) (s : State) (d : ℕ) → d < device_limit → own_numbers s ≡ device_numbers slot
+    → has_device slot d ≡ is_some (own_fixture_at s.stock.claims d)
 unfolding own_numbers device_numbers
 has_own slot s d small own =
     sym (passes_there (has_device slot) 0 device_limit d (omega arith) (omega arith))
@@ -67,7 +69,8 @@ has_own slot s d small own =
     ∙ passes_there (λ n. is_some (own_fixture_at s.stock.claims n)) 0 device_limit d (omega arith) (omega arith)
 
 -- the slot has a device of a number, as its devices are read
-pub any_number : (devices : List (ℕ × Device)) (d : ℕ) → list_any (λ (x : ℕ × Device). eqb x.0 d) devices ≡ list_any (λ (x : JobDevice). eqb x.d d) (map shown_device devices)
+pub any_number : (devices : List (ℕ × Device)) (d : ℕ) → list_any (λ (x : ℕ × Device). eqb x.0 d) devices ≡ list_any (λ (x : JobDevice). eqb x.d d)
+    (map shown_device devices)
 any_number [] d = refl
 any_number (x ∷ devices) d = ap (λ b. eqb x.0 d || b) (any_number devices d)
 
@@ -82,27 +85,34 @@ none_there (Some f) e = cc
 -- ---- the program of a slot in a machine
 
 -- where the slot has the device of a number, the program shows it
-pub device_there : (o : Option State) (slot : SlotJob) (other : State) (d : ℕ) (r : Option Device) → is_some o ≡ true → own_numbers (unwrap_or o other) ≡ device_numbers slot → d < device_limit
-    → has_device slot d ≡ true → IfSome o (λ (s : State). is_some (own_fixture_at s.stock.claims d) ≡ true → machine.IsDeviceAt s d r) → alone.IsDeviceAt (unwrap_or o other) d r
+pub device_there : (o : Option State) (slot : SlotJob) (other : State) (d : ℕ) (r : Option Device) → is_some o ≡ true
+    → own_numbers (unwrap_or o other) ≡ device_numbers slot → d < device_limit
+    → has_device slot d ≡ true → IfSome o (λ (s : State). is_some (own_fixture_at s.stock.claims d) ≡ true → machine.IsDeviceAt s d r)
+    → alone.IsDeviceAt (unwrap_or o other) d r
 device_there None slot other d r there own small has_d is = cc
 device_there (Some s) slot other d r there own small has_d is = same_device s d r (is (sym (has_own slot s d small own) ∙ has_d))
 
 -- and it shows whether its own device is claimed
-pub claimed_there : (o : Option State) (other : State) (d : ℕ) (r : Bool) → is_some o ≡ true → is_some (own_fixture_at (unwrap_or o other).stock.claims d) ≡ true
-    → IfSome o (λ (s : State). is_some (own_fixture_at s.stock.claims d) ≡ true → r ≡ is_claimed s.stock.claims d) → r ≡ is_claimed (unwrap_or o other).stock.claims d
+pub claimed_there : (o : Option State) (other : State) (d : ℕ) (r : Bool) → is_some o ≡ true → is_some (own_fixture_at (unwrap_or o other).stock.claims d)
+    ≡ true
+    → IfSome o (λ (s : State). is_some (own_fixture_at s.stock.claims d) ≡ true → r ≡ is_claimed s.stock.claims d)
+    → r ≡ is_claimed (unwrap_or o other).stock.claims d
 claimed_there None other d r there own is = cc
 claimed_there (Some s) other d r there own is = is own
 
 -- and where it hasn't, there is none
-pub no_device : (slot : SlotJob) (s : State) (d : ℕ) → own_numbers s ≡ device_numbers slot → d < device_limit → has_device slot d ≡ false → own_fixture_at s.stock.claims d ≡ None
+pub no_device : (slot : SlotJob) (s : State) (d : ℕ) → own_numbers s ≡ device_numbers slot → d < device_limit → has_device slot d ≡ false
+    → own_fixture_at s.stock.claims d ≡ None
 no_device slot s d own small hasnt = none_there (own_fixture_at s.stock.claims d) (sym (has_own slot s d small own) ∙ hasnt)
 
 -- its stints
-pub stints_there : (o : Option State) (other : State) (n : ℕ) → is_some o ≡ true → IsSomeAnd o (λ (s : State). n ≡ length (lendings s.stock)) → n ≡ length (lendings (unwrap_or o other).stock)
+pub stints_there : (o : Option State) (other : State) (n : ℕ) → is_some o ≡ true → IsSomeAnd o (λ (s : State). n ≡ length (lendings s.stock))
+    → n ≡ length (lendings (unwrap_or o other).stock)
 stints_there None other n there is = cc
 stints_there (Some s) other n there is = is
 
-pub stint_within : (o : Option State) (other : State) (i : ℕ) → is_some o ≡ true → i < length (lendings (unwrap_or o other).stock) → IsSomeAnd o (λ (s : State). i < length (lendings s.stock))
+pub stint_within : (o : Option State) (other : State) (i : ℕ) → is_some o ≡ true → i < length (lendings (unwrap_or o other).stock)
+    → IsSomeAnd o (λ (s : State). i < length (lendings s.stock))
 stint_within None other i there lt = absurd cc
 stint_within (Some s) other i there lt = lt
 

@@ -1,6 +1,7 @@
 -- The slots of a job without a fault have their pool as the stints of a program begin.
 use Rattle.std.specs.List.{All}
-use Rattle.std.proofs.Common.{◌≡◌, ℕ, zero, suc, ◌<◌, ◌≤◌, Bool, true, false, List, length, get_or, map, Option, Some, None, is_some, refl, sym, ap, ◌∙◌, subst, ⊎_elim, arith}
+use Rattle.std.proofs.Common.{◌≡◌, ℕ, zero, suc, ◌<◌, ◌≤◌, Bool, true, false, List, length, get_or, map, Option, Some, None, is_some, refl, sym, ap, ◌∙◌, subst}
+use Rattle.std.proofs.Common.{⊎_elim, arith}
 use Rattle.std.proofs.lemmas.Bool.{cases_Bool, cases_lt, false≢true}
 use Rattle.std.proofs.lemmas.List.{get_or-map, length-map}
 use Rattle.kdf_transfer.proofs.Numbers.{length-numbers, limit_is, number_at, number_past}
@@ -78,7 +79,8 @@ lone_lent : (start : State) (answers : List ℕ) (n : ℕ) → IsLent start → 
 lone_lent start answers zero is = is
 lone_lent start answers (suc n) is = step_lent answers (lone start answers n) (lone_lent start answers n is)
 
-pub job_lent : (bytes words answers : List ℕ) (n : ℕ) → job_fault bytes ≡ None → All (λ (s : SlotJob). IsLent (lone (begin (slot_of s words)) answers n)) (job bytes).slots
+pub job_lent : (bytes words answers : List ℕ) (n : ℕ) → job_fault bytes ≡ None → All (λ (s : SlotJob). IsLent (lone (begin (slot_of s words)) answers n))
+    (job bytes).slots
 job_lent bytes words answers n free i x lt =
     let slot : Slot = slot_of (get_or (job bytes).slots i x) words in
     lone_lent (begin slot) answers n (begin_lent slot (job_pools bytes words free i x lt))

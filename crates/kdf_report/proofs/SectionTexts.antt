@@ -1,5 +1,6 @@
 -- The text of a section and of a report, part by part.
-use Rattle.std.proofs.Common.{◌≡◌, ℕ, ◌<◌, List, [], ◌∷◌, ◌++◌, All, Bool, true, false, cond, length, map, codes, decimal, Option, Some, None, is_some, refl, sym, ◌∙◌, ap, subst, arith}
+use Rattle.std.proofs.Common.{◌≡◌, ℕ, ◌<◌, List, [], ◌∷◌, ◌++◌, All, Bool, true, false, cond, length, map, codes, decimal, Option, Some, None, is_some, refl}
+use Rattle.std.proofs.Common.{sym, ◌∙◌, ap, subst, arith}
 use Rattle.std.specs.List.{filter, flat_map, range_with_len}
 use Rattle.std.proofs.lemmas.List.{get_or-map, length-map}
 use Rattle.kdf_journal.specs.declared.entry.Entry.{Entry}
@@ -15,7 +16,8 @@ use Rattle.kdf_text.specs.Text.{text}
 use Rattle.kdf_text.proofs.Texts.{text_more}
 use Rattle.kdf_report.specs.Devices.{device_lines, device_numbers, own_lines, stint_lines}
 use Rattle.kdf_report.specs.MadeFrom.{own_numbers}
-use Rattle.kdf_report.specs.Text.{registers_lines, show_lines, spool_line, section, alone_line, end_line, alone_text, entry_line, head_line, report_lines, report_text}
+use Rattle.kdf_report.specs.Text.{registers_lines, show_lines, spool_line, section, alone_line, end_line, alone_text, entry_line, head_line, report_lines}
+use Rattle.kdf_report.specs.Text.{report_text}
 
 -- what is left out has nothing
 flat_map-filter : {A B : Type 0} (f : A → List B) (p : A → Bool) → ((x : A) → p x ≡ false → f x ≡ []) → (xs : List A) → flat_map f (filter p xs) ≡ flat_map f xs
@@ -31,14 +33,16 @@ no_lines d claimed None x e = refl
 no_lines d claimed (Some f) x e = cc
 
 -- the lines of all numbers are those of the slot's devices
-devices_of_slot : (slot : SlotJob) (s : State) → own_numbers s ≡ device_numbers slot → flat_map (device_lines s) (range_with_len 0 device_limit) ≡ flat_map (device_lines s) (device_numbers slot)
+devices_of_slot : (slot : SlotJob) (s : State) → own_numbers s ≡ device_numbers slot → flat_map (device_lines s) (range_with_len 0 device_limit)
+    ≡ flat_map (device_lines s) (device_numbers slot)
 unfolding device_lines own_numbers
 devices_of_slot slot s own =
     sym (flat_map-filter (device_lines s) (λ d. is_some (own_fixture_at s.stock.claims d))
     (λ d e. no_lines d (is_claimed s.stock.claims d) (own_fixture_at s.stock.claims d) (device_at s d) e) (range_with_len 0 device_limit))
     ∙ ap (flat_map (device_lines s)) own
 
-pub section_text : (slot : SlotJob) (s : State) (r : Registers) (shows : List (ℕ × ℕ)) (spooled : List Spooled) (old slot_written registers_written shows_written spool_written devices_written new : List ℕ)
+pub section_text : (slot : SlotJob) (s : State) (r : Registers) (shows : List (ℕ × ℕ)) (spooled : List Spooled)
+    (old slot_written registers_written shows_written spool_written devices_written new : List ℕ)
     → own_numbers s ≡ device_numbers slot → r ≡ s.registers → shows ≡ slot.shows → spooled ≡ s.stock.spooled
     → slot_written ≡ old ++ text ((codes "SLOT " ++ decimal slot.p) ∷ [])
     → registers_written ≡ slot_written ++ text (registers_lines r)
@@ -48,7 +52,8 @@ pub section_text : (slot : SlotJob) (s : State) (r : Registers) (shows : List (�
     → new ≡ devices_written ++ text (flat_map stint_lines (lendings s.stock))
     → new ≡ old ++ text (section slot s)
 unfolding section
-section_text slot s r shows spooled old slot_written registers_written shows_written spool_written devices_written new own is_r is_shows is_spooled first second third fourth fifth sixth =
+section_text slot s r shows spooled old slot_written registers_written shows_written spool_written devices_written new own is_r is_shows is_spooled first
+    second third fourth fifth sixth =
     let registers = subst (λ x. registers_written ≡ slot_written ++ text (registers_lines x)) is_r second in
     let words = subst (λ x. shows_written ≡ registers_written ++ text (flat_map (show_lines s) x)) is_shows third in
     let texts = subst (λ x. spool_written ≡ shows_written ++ text (map spool_line x)) is_spooled fourth in

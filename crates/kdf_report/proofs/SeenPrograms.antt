@@ -1,5 +1,6 @@
 -- What is seen of a program that was loaded from a slot of a job is one of that slot.
-use Rattle.std.proofs.Common.{◌≡◌, ℕ, zero, suc, ◌<◌, Bool, true, false, cond, eqb, List, [], ◌∷◌, ◌++◌, length, map, get_or, All, Option, Some, None, IsSomeAnd, refl, sym, subst, ◌∙◌, ap, arith}
+use Rattle.std.proofs.Common.{◌≡◌, ℕ, zero, suc, ◌<◌, Bool, true, false, cond, eqb, List, [], ◌∷◌, ◌++◌, length, map, get_or, All, Option, Some, None}
+use Rattle.std.proofs.Common.{IsSomeAnd, refl, sym, subst, ◌∙◌, ap, arith}
 use Rattle.std.specs.Prelude.{unwrap_or}
 use Rattle.std.specs.List.{flat_map}
 use Rattle.std.specs.Option.{option_map}
@@ -29,7 +30,8 @@ loaded slot words = loading.slot_of (load_of slot words)
 
 -- ---- a program of the slot by itself, and what is seen of it
 
-own_of_slot : (slots : List Slot) (J : List Entry) (p : ℕ) (slot : SlotJob) (words : List ℕ) → IsSlot slot → slot_of slots p ≡ Some (loaded slot words) → IsProgramOf slot (own slots J p)
+own_of_slot : (slots : List Slot) (J : List Entry) (p : ℕ) (slot : SlotJob) (words : List ℕ) → IsSlot slot → slot_of slots p ≡ Some (loaded slot words)
+    → IsProgramOf slot (own slots J p)
 unfolding own
 own_of_slot slots J p slot words is at =
     subst (λ o. IsProgramOf slot (lone (start_of o) (answers p J) (ran p J))) (sym at) (program_of slot words (answers p J) (ran p J) is)
@@ -37,7 +39,8 @@ own_of_slot slots J p slot words is at =
 seen_like : (flights : ℕ → Option Flight) (slot : SlotJob) (s : State) → IsProgramOf slot s → IsProgramOf slot (seen flights s)
 seen_like flights slot s is = record { size = is.size; shows = is.shows; devices = own_same (seen flights s) s refl ∙ is.devices }
 
-seen_of_slot : (slots : List Slot) (J : List Entry) (p : ℕ) (slot : SlotJob) (words : List ℕ) → IsSlot slot → slot_of slots p ≡ Some (loaded slot words) → IsProgramOf slot (seen_of slots J p)
+seen_of_slot : (slots : List Slot) (J : List Entry) (p : ℕ) (slot : SlotJob) (words : List ℕ) → IsSlot slot → slot_of slots p ≡ Some (loaded slot words)
+    → IsProgramOf slot (seen_of slots J p)
 seen_of_slot slots J p slot words is at = seen_like (flights_of slots J p) slot (own slots J p) (own_of_slot slots J p slot words is at)
 
 -- ---- each slot of a job is found by its number
@@ -63,8 +66,11 @@ found (s ∷ slots) (words ∷ images) zero d rising have lt =
 found (s ∷ slots) (words ∷ images) (suc k) d rising have lt =
     let later = found slots images k d (rising_rest s slots rising) have.1 (omega arith) in
     let p : ℕ = (get_or slots k d).p in
-    let less = above s slots k d rising (omega arith) in
-    (later.0, ap (λ b. cond b (Some (loaded s words)) (slot_of (slots_of slots images) (get_or slots k d).p)) (ne_eqb s.p (get_or slots k d).p (λ e. absurd (omega arith))) ∙ later.1)
+    let less = above s slots k d rising (omega arith) in (
+      later.0,
+      ap (λ b. cond b (Some (loaded s words)) (slot_of (slots_of slots images) (get_or slots k d).p))
+          (ne_eqb s.p (get_or slots k d).p (λ e. absurd (omega arith))) ∙ later.1,
+    )
 
 -- ---- the states that a machine shows
 
@@ -107,21 +113,25 @@ has_programs m slots images are have same shows k d lt =
 pub state_at-seen : (m : Shown) (p : ℕ) (P : State → Type 0) → ShowsSeen m → IsSomeAnd (state_of m p) P → state_at m p ≡ seen_of m.slots m.journal p
 state_at-seen m p P shows there = go (slot_of m.slots p) refl (subst (λ o. IsSomeAnd o P) (state_of-seen m p shows) there)
   where
-    go : (o : Option Slot) → slot_of m.slots p ≡ o → IsSomeAnd (option_map (λ (s : Slot). seen_of m.slots m.journal s.p) o) P → state_at m p ≡ seen_of m.slots m.journal p
+    go : (o : Option Slot) → slot_of m.slots p ≡ o → IsSomeAnd (option_map (λ (s : Slot). seen_of m.slots m.journal s.p) o) P
+        → state_at m p ≡ seen_of m.slots m.journal p
     go None e there = absurd there
     go (Some s) e there =
         ap (λ o. unwrap_or o (start_of None)) (state_of-seen m p shows ∙ ap (option_map (λ (x : Slot). seen_of m.slots m.journal x.p)) e)
         ∙ ap (seen_of m.slots m.journal) (its_number m.slots p s e)
 
 sections_seen : (m : Shown) → ShowsSeen m → (slots : List SlotJob) → All (HasProgram m) slots
-    → flat_map (λ (slot : SlotJob). section slot (state_at m slot.p)) slots ≡ flat_map (λ (slot : SlotJob). section slot (seen_of m.slots m.journal slot.p)) slots
+    → flat_map (λ (slot : SlotJob). section slot (state_at m slot.p)) slots ≡ flat_map (λ (slot : SlotJob). section slot (seen_of m.slots m.journal slot.p))
+    slots
 sections_seen m shows [] has = refl
 sections_seen m shows (slot ∷ slots) has =
-    let first : section slot (state_at m slot.p) ≡ section slot (seen_of m.slots m.journal slot.p) = ap (section slot) (state_at-seen m slot.p _ shows (has 0 slot (omega arith))) in
+    let first : section slot (state_at m slot.p) ≡ section slot (seen_of m.slots m.journal slot.p) =
+    ap (section slot) (state_at-seen m slot.p _ shows (has 0 slot (omega arith))) in
     let others = sections_seen m shows slots (λ k d h. has (suc k) d (omega arith)) in
     cc
 
-pub report_seen : (m : Shown) (job : Job) → ShowsSeen m → All (HasProgram m) job.slots → report_text job m.journal (state_at m) ≡ report_text job m.journal (seen_of m.slots m.journal)
+pub report_seen : (m : Shown) (job : Job) → ShowsSeen m → All (HasProgram m) job.slots → report_text job m.journal (state_at m) ≡ report_text job m.journal
+    (seen_of m.slots m.journal)
 unfolding report_lines
 report_seen m job shows has =
     ap (λ xs. text ((head_line ∷ map entry_line m.journal) ++ xs ++ end_line ∷ [])) (sections_seen m shows job.slots has)

@@ -26,10 +26,12 @@ summary_whole n bytes job J states slots entries none head lines all is_none is_
     subst (λ x. all ≡ x ++ summary_text n bytes job J states) is_none whole
 
 lines_seen : (m : Shown) → ShowsSeen m → (slots : List SlotJob) → All (HasProgram m) slots
-    → map (λ (slot : SlotJob). program_line slot.p (state_at m slot.p)) slots ≡ map (λ (slot : SlotJob). program_line slot.p (seen_of m.slots m.journal slot.p)) slots
+    → map (λ (slot : SlotJob). program_line slot.p (state_at m slot.p)) slots
+    ≡ map (λ (slot : SlotJob). program_line slot.p (seen_of m.slots m.journal slot.p)) slots
 lines_seen m shows [] has = refl
 lines_seen m shows (slot ∷ slots) has =
-    let first : program_line slot.p (state_at m slot.p) ≡ program_line slot.p (seen_of m.slots m.journal slot.p) = ap (program_line slot.p) (state_at-seen m slot.p _ shows (has 0 slot (omega arith))) in
+    let first : program_line slot.p (state_at m slot.p) ≡ program_line slot.p (seen_of m.slots m.journal slot.p) =
+    ap (program_line slot.p) (state_at-seen m slot.p _ shows (has 0 slot (omega arith))) in
     let others = lines_seen m shows slots (λ k d h. has (suc k) d (omega arith)) in
     cc
 

@@ -30,7 +30,8 @@ use Rattle.kdf_report.proofs.LoadedJobs.{loaded_slots}
 abbrev loaded : SlotJob → Slot
 loaded s = loading.slot_of (load_of s (image_words s.size s.deck))
 
-found_first : (is : Bool) (s : SlotJob) (o : Option SlotJob) (other : Option Slot) → other ≡ option_map loaded o → cond is (Some (loaded s)) other ≡ option_map loaded (cond is (Some s) o)
+found_first : (is : Bool) (s : SlotJob) (o : Option SlotJob) (other : Option Slot) → other ≡ option_map loaded o
+    → cond is (Some (loaded s)) other ≡ option_map loaded (cond is (Some s) o)
 found_first true s o other e = refl
 found_first false s o other e = e
 
@@ -45,24 +46,29 @@ begins_alike first second p same =
     ap start_of (found_loaded first.slots p ∙ ap (λ (o : Option SlotJob). option_map loaded o) same ∙ sym (found_loaded second.slots p))
 
 -- a program that is live in neither of two journals, and was answered alike
-module _ (first second : Job) (J K : List Entry) (p : ℕ) (are : AreSlots (slots_of first)) (legal : IsLegal (slots_of first) J) (are' : AreSlots (slots_of second)) (legal' : IsLegal (slots_of second) K)
-    (same : slot_numbered first.slots p ≡ slot_numbered second.slots p) (told : answers p J ≡ answers p K) (over : is_live (own (slots_of first) J p).registers.state ≡ false) (over' : is_live (own (slots_of second) K p).registers.state ≡ false) where
+module _ (first second : Job) (J K : List Entry) (p : ℕ) (are : AreSlots (slots_of first)) (legal : IsLegal (slots_of first) J)
+    (are' : AreSlots (slots_of second)) (legal' : IsLegal (slots_of second) K)
+    (same : slot_numbered first.slots p ≡ slot_numbered second.slots p) (told : answers p J ≡ answers p K)
+    (over : is_live (own (slots_of first) J p).registers.state ≡ false) (over' : is_live (own (slots_of second) K p).registers.state ≡ false) where
   seen_alike : seen_of (slots_of first) J p ≡ seen_of (slots_of second) K p
   seen_alike =
-      two-ends (slots_of first) (slots_of second) J K p ((legal-course (slots_of first) J are legal p).over over) ((legal-course (slots_of second) K are' legal' p).over over')
+      two-ends (slots_of first) (slots_of second) J K p ((legal-course (slots_of first) J are legal p).over over)
+      ((legal-course (slots_of second) K are' legal' p).over over')
       (begins_alike first second p same) told over over'
 
   pub same_section : section_of p first (seen_of (slots_of first) J) ≡ section_of p second (seen_of (slots_of second) K)
   same_section = ap₂ (λ (o : Option SlotJob) (s : State). option_map (λ (slot : SlotJob). section slot s) o) same seen_alike
 
-pub same_slots : (first second : List ℕ) (J K : List Entry) (p : ℕ) → job_fault first ≡ None → job_fault second ≡ None → slot_numbered (job first).slots p ≡ slot_numbered (job second).slots p
+pub same_slots : (first second : List ℕ) (J K : List Entry) (p : ℕ) → job_fault first ≡ None → job_fault second ≡ None
+    → slot_numbered (job first).slots p ≡ slot_numbered (job second).slots p
     → IsLegal (slots_of (job first)) J → IsLegal (slots_of (job second)) K → answers p J ≡ answers p K
     → is_live (own (slots_of (job first)) J p).registers.state ≡ false → is_live (own (slots_of (job second)) K p).registers.state ≡ false
     → section_of p (job first) (seen_of (slots_of (job first)) J) ≡ section_of p (job second) (seen_of (slots_of (job second)) K)
 same_slots first second J K p free free' same legal legal' told over over' =
     same_section (job first) (job second) J K p (loaded_slots first free) legal (loaded_slots second free') legal' same told over over'
 
-pub same_lines : (first second : List ℕ) (J K : List Entry) (p : ℕ) → job_fault first ≡ None → job_fault second ≡ None → slot_lines p first ≡ slot_lines p second → pool_lines first ≡ pool_lines second
+pub same_lines : (first second : List ℕ) (J K : List Entry) (p : ℕ) → job_fault first ≡ None → job_fault second ≡ None
+    → slot_lines p first ≡ slot_lines p second → pool_lines first ≡ pool_lines second
     → IsLegal (slots_of (job first)) J → IsLegal (slots_of (job second)) K → answers p J ≡ answers p K
     → is_live (own (slots_of (job first)) J p).registers.state ≡ false → is_live (own (slots_of (job second)) K p).registers.state ≡ false
     → section_of p (job first) (seen_of (slots_of (job first)) J) ≡ section_of p (job second) (seen_of (slots_of (job second)) K)
@@ -91,15 +97,18 @@ section_first true s o p states later lines is behind e =
     ([], later, ap (λ (xs : List (List ℕ)). xs ++ later) (ap (λ (n : ℕ). section s (states n)) (eqb-true s.p p is) ∙ this))
 section_first false s o p states later lines is behind e = more_before later lines (section s (states s.p)) (behind e)
 
-section_among : (slots : List SlotJob) (p : ℕ) (states : ℕ → State) (lines : List (List ℕ)) → option_map (λ (slot : SlotJob). section slot (states p)) (slot_numbered slots p) ≡ Some lines
+section_among : (slots : List SlotJob) (p : ℕ) (states : ℕ → State) (lines : List (List ℕ))
+    → option_map (λ (slot : SlotJob). section slot (states p)) (slot_numbered slots p) ≡ Some lines
     → Around (flat_map (λ (slot : SlotJob). section slot (states slot.p)) slots) lines
 section_among [] p states lines e = absurd cc
 section_among (s ∷ slots) p states lines e =
-    section_first (nat_eq s.p p) s (slot_numbered slots p) p states (flat_map (λ (slot : SlotJob). section slot (states slot.p)) slots) lines refl (section_among slots p states lines) e
+    section_first (nat_eq s.p p) s (slot_numbered slots p) p states (flat_map (λ (slot : SlotJob). section slot (states slot.p)) slots) lines refl
+    (section_among slots p states lines) e
 
 pub section_there : (job : Job) (J : List Entry) (states : ℕ → State) (p : ℕ) (lines : List (List ℕ)) → section_of p job states ≡ Some lines
     → (front : List (List ℕ)) × (rest : List (List ℕ)) × (report_lines job J states ≡ front ++ lines ++ rest)
 unfolding report_lines
 section_there job J states p lines e =
     more_behind ((head_line ∷ map entry_line J) ++ flat_map (λ (slot : SlotJob). section slot (states slot.p)) job.slots) lines (end_line ∷ [])
-    (more_before (flat_map (λ (slot : SlotJob). section slot (states slot.p)) job.slots) lines (head_line ∷ map entry_line J) (section_among job.slots p states lines e))
+    (more_before (flat_map (λ (slot : SlotJob). section slot (states slot.p)) job.slots) lines (head_line ∷ map entry_line J)
+    (section_among job.slots p states lines e))

@@ -1,5 +1,6 @@
 -- A text that is cut between its lines.
-use Rattle.std.proofs.Common.{◌≡◌, ◌⊎◌, inl, inr, ⊎_elim, ℕ, zero, suc, ◌+◌, ◌-◌, ◌<◌, true, false, eqb, List, [], ◌∷◌, ◌++◌, length, take, drop, refl, sym, ap, ◌∙◌, arith, length-append, length-drop}
+use Rattle.std.proofs.Common.{◌≡◌, ◌⊎◌, inl, inr, ⊎_elim, ℕ, zero, suc, ◌+◌, ◌-◌, ◌<◌, true, false, eqb, List, [], ◌∷◌, ◌++◌, length, take, drop, refl, sym, ap}
+use Rattle.std.proofs.Common.{◌∙◌, arith, length-append, length-drop}
 use Rattle.std.proofs.lemmas.Bool.{cases_Bool, eqb-true}
 use Rattle.std.proofs.lemmas.List.{append_assoc, drop-drop, drop_at, drop_all, length_push, take_at}
 use Rattle.kdf_text.specs.Lines.{in_first, lines}
@@ -21,7 +22,8 @@ longer_line b bytes isnt f = record {
   first = b ∷ f.first;
   rest = f.rest;
   is = rw isnt (ap (in_first b) f.is);
-  cut = ⊎_elim (λ (e : bytes ≡ f.first ++ 10 ∷ f.rest). inl (ap (λ bs. b ∷ bs) e)) (λ (e : (bytes ≡ f.first) × (f.rest ≡ [])). inr (ap (λ bs. b ∷ bs) e.0, e.1)) f.cut;
+  cut = ⊎_elim (λ (e : bytes ≡ f.first ++ 10 ∷ f.rest). inl (ap (λ bs. b ∷ bs) e))
+      (λ (e : (bytes ≡ f.first) × (f.rest ≡ [])). inr (ap (λ bs. b ∷ bs) e.0, e.1)) f.cut;
 }
 
 ended_line : (b : ℕ) (bytes : List ℕ) → eqb b 10 ≡ true → FirstLine (b ∷ bytes)
@@ -61,7 +63,8 @@ take_front front rest n =
     ∙ append_assoc front (10 ∷ []) (take n rest)
 
 -- the offset after a line that has its end, and the others
-offset_more : (bytes : List ℕ) (f : List ℕ) (rest : List ℕ) (k : ℕ) → bytes ≡ f ++ 10 ∷ rest → lines bytes ≡ f ∷ lines rest → offset bytes (suc k) ≡ length f + 1 + offset rest k
+offset_more : (bytes : List ℕ) (f : List ℕ) (rest : List ℕ) (k : ℕ) → bytes ≡ f ++ 10 ∷ rest → lines bytes ≡ f ∷ lines rest
+    → offset bytes (suc k) ≡ length f + 1 + offset rest k
 offset_more bytes f rest k e is =
     let size : length bytes ≡ length f + suc (length rest) = ap length e ∙ length-append f (10 ∷ rest) in
     let front : length (text (take (suc k) (lines bytes))) ≡ length f + suc (length (text (take k (lines rest)))) =
@@ -143,7 +146,8 @@ lines-front (suc k) [] lt = absurd (omega (arith, ap length (drop_nil 0)))
 lines-front (suc k) (b ∷ bytes) lt = front_some k b bytes (λ r. lines-front k r) (first_line b bytes) lt
 
 -- and between two offsets stands the text of the lines between
-pub lines-between : (k n : ℕ) (bytes : List ℕ) → k + n < length (lines bytes) → take (offset bytes (k + n) - offset bytes k) (drop (offset bytes k) bytes) ≡ text (take n (drop k (lines bytes)))
+pub lines-between : (k n : ℕ) (bytes : List ℕ) → k + n < length (lines bytes) → take (offset bytes (k + n) - offset bytes k) (drop (offset bytes k) bytes)
+    ≡ text (take n (drop k (lines bytes)))
 lines-between k n bytes lt =
     let ls = lines bytes in
     let after = drop (offset bytes k) bytes in

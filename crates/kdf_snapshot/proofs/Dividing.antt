@@ -1,5 +1,6 @@
 -- The parts of a snapshot, by the lines that were passed.
-use Rattle.std.proofs.Common.{◌≡◌, ℕ, ◌+◌, ◌-◌, ◌<◌, ◌≤◌, true, false, List, length, take, drop, min, Some, None, Result, Ok, Err, refl, sym, ap, ◌∙◌, subst, arith, length-drop}
+use Rattle.std.proofs.Common.{◌≡◌, ℕ, ◌+◌, ◌-◌, ◌<◌, ◌≤◌, true, false, List, length, take, drop, min, Some, None, Result, Ok, Err, refl, sym, ap, ◌∙◌, subst}
+use Rattle.std.proofs.Common.{arith, length-drop}
 use Rattle.std.specs.List.{position_from}
 use Rattle.std.proofs.lemmas.List.{drop-drop}
 use Rattle.kdf_text.specs.Ahead.{ahead}
@@ -31,7 +32,8 @@ pub record Headed (first : ℕ) (bytes : List ℕ) (at : Cursor) : Type 0 where
   pub offset : at.offset ≡ length (text (take 1 (lines bytes)))
   pub within : 1 ≤ length (lines bytes)
 
-pub headed : (first : ℕ) (bytes : List ℕ) (a b : Cursor) → a.lines.rest.now ≡ bytes → a.lines.number ≡ first → a.offset ≡ 0 → is_text journal_line (line (ahead a.lines) 1) ≡ true → Passed 1 a b → Headed first bytes b
+pub headed : (first : ℕ) (bytes : List ℕ) (a b : Cursor) → a.lines.rest.now ≡ bytes → a.lines.number ≡ first → a.offset ≡ 0
+    → is_text journal_line (line (ahead a.lines) 1) ≡ true → Passed 1 a b → Headed first bytes b
 headed first bytes a b is number none head p =
     let ls : ahead a.lines ≡ lines bytes = ap lines is in
     let front : length (text (take 1 (ahead a.lines))) ≡ length (text (take 1 (lines bytes))) = ap (λ ks. length (text (take 1 ks))) ls in
@@ -44,7 +46,8 @@ headed first bytes a b is number none head p =
       within = omega (arith, p.within, many);
     }
 
-pub after-head : (first : ℕ) (bytes : List ℕ) (b : Cursor) (r : Result (List Entry) (SnapshotFault × ℕ)) → Headed first bytes b → entries_from b.lines.number (ahead b.lines) ≡ r → parts_of first bytes ≡ parts_after first bytes r
+pub after-head : (first : ℕ) (bytes : List ℕ) (b : Cursor) (r : Result (List Entry) (SnapshotFault × ℕ)) → Headed first bytes b
+    → entries_from b.lines.number (ahead b.lines) ≡ r → parts_of first bytes ≡ parts_after first bytes r
 unfolding parts_of
 after-head first bytes b r h e =
     rw h.is (ap (parts_after first bytes) (ap (λ n. entries_from n (drop 1 (lines bytes))) (sym h.number) ∙ ap (entries_from b.lines.number) (sym h.rest) ∙ e))
@@ -71,7 +74,8 @@ sealing first bytes es b c h p =
       within = omega (arith, p.within, h.within, left, length-drop 1 ls);
     }
 
-pub no-end : (first : ℕ) (bytes : List ℕ) (es : List Entry) (c d : Cursor) → Sealing first bytes es c → PassedAll c d → parts_to first bytes es (end_after (length es + 2) (lines bytes)) ≡ Err (NoEnd, d.lines.number)
+pub no-end : (first : ℕ) (bytes : List ℕ) (es : List Entry) (c d : Cursor) → Sealing first bytes es c → PassedAll c d
+    → parts_to first bytes es (end_after (length es + 2) (lines bytes)) ≡ Err (NoEnd, d.lines.number)
 no-end first bytes es c d s p =
     let ls = lines bytes in
     let left : length (ahead c.lines) ≡ length (drop (length es + 2) ls) = ap length s.rest in
@@ -90,14 +94,17 @@ pub record Ended (first : ℕ) (bytes : List ℕ) (es : List Entry) (from to : �
   pub more_is : min at.offset (length bytes) ≡ offset bytes (before + 1)
   pub line_is : at.lines.number ≡ first + before + 1
 
-pub ended : (first : ℕ) (bytes : List ℕ) (es : List Entry) (c d : Cursor) (begin : ℕ) → Sealing first bytes es c → PassedEnd c d begin → Ended first bytes es c.offset begin d
+pub ended : (first : ℕ) (bytes : List ℕ) (es : List Entry) (c d : Cursor) (begin : ℕ) → Sealing first bytes es c → PassedEnd c d begin
+    → Ended first bytes es c.offset begin d
 ended first bytes es c d begin s p =
     let ls = lines bytes in
     let n = length es + 2 in
     let left : length (ahead c.lines) ≡ length (drop n ls) = ap length s.rest in
     let within : n + p.sealed < length ls = omega (arith, p.passed.within, left, length-drop n ls, s.within) in
-    let front : length (text (take p.sealed (ahead c.lines))) ≡ length (text (take p.sealed (drop n ls))) = ap (λ ks. length (text (take p.sealed ks))) s.rest in
-    let all : length (text (take (p.sealed + 1) (ahead c.lines))) ≡ length (text (take (p.sealed + 1) (drop n ls))) = ap (λ ks. length (text (take (p.sealed + 1) ks))) s.rest in
+    let front : length (text (take p.sealed (ahead c.lines))) ≡ length (text (take p.sealed (drop n ls))) =
+    ap (λ ks. length (text (take p.sealed ks))) s.rest in
+    let all : length (text (take (p.sealed + 1) (ahead c.lines))) ≡ length (text (take (p.sealed + 1) (drop n ls))) =
+    ap (λ ks. length (text (take (p.sealed + 1) ks))) s.rest in
     let one : n + (p.sealed + 1) ≡ n + p.sealed + 1 = omega arith in
     let more : length (text (take (n + (p.sealed + 1)) ls)) ≡ length (text (take (n + p.sealed + 1) ls)) = ap (λ k. length (text (take k ls))) one in
     let at_more : d.offset ≡ length (text (take (n + p.sealed + 1) ls)) = omega (arith, p.passed.offset, s.offset, all, text-more n (p.sealed + 1) ls, more) in
@@ -112,17 +119,21 @@ ended first bytes es c d begin s p =
       line_is = omega (arith, p.passed.number, s.number);
     }
 
-pub made : (first : ℕ) (bytes : List ℕ) (es : List Entry) (from to more : ℕ) (at : Cursor) → Ended first bytes es from to at → more ≡ min at.offset (length bytes)
-    → parts_to first bytes es (end_after (length es + 2) (lines bytes)) ≡ Ok (record { entries = es; seal_from = from; seal_to = to; more_from = more; more_line = at.lines.number })
+pub made : (first : ℕ) (bytes : List ℕ) (es : List Entry) (from to more : ℕ) (at : Cursor) → Ended first bytes es from to at
+    → more ≡ min at.offset (length bytes)
+    → parts_to first bytes es (end_after (length es + 2) (lines bytes))
+    ≡ Ok (record { entries = es; seal_from = from; seal_to = to; more_from = more; more_line = at.lines.number })
 made first bytes es from to more at e is =
     ap (parts_to first bytes es) e.is ∙ rw (e.from_is, e.to_is, is ∙ e.more_is, e.line_is) refl
 
 -- the fault of a journal's line is that of the whole
-pub says-on : (e : SplitError) (first : ℕ) (bytes : List ℕ) (b : Cursor) → Headed first bytes b → Says e (entries_from b.lines.number (ahead b.lines)) → Says e (parts_of first bytes)
+pub says-on : (e : SplitError) (first : ℕ) (bytes : List ℕ) (b : Cursor) → Headed first bytes b → Says e (entries_from b.lines.number (ahead b.lines))
+    → Says e (parts_of first bytes)
 says-on (Fault fault line) first bytes b h s = after-head first bytes b (Err (fault, line)) h s
 says-on Memory first bytes b h s = tt
 
-pub inside : (first : ℕ) (bytes : List ℕ) (p : SplitParts) (at : Cursor) → Ended first bytes p.entries.items p.seal_from p.seal_to at → p.more_from ≡ min at.offset (length bytes) → p.more_line ≡ at.lines.number → IsInside first (length bytes) p
+pub inside : (first : ℕ) (bytes : List ℕ) (p : SplitParts) (at : Cursor) → Ended first bytes p.entries.items p.seal_from p.seal_to at
+    → p.more_from ≡ min at.offset (length bytes) → p.more_line ≡ at.lines.number → IsInside first (length bytes) p
 inside first bytes p at e more line =
     let n = length p.entries.items + 2 in
     let d = e.before - n in

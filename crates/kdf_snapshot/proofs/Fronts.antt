@@ -66,7 +66,8 @@ kept (Ok x) m n is le = subst (λ (y : Shown). n ≤ y.room) (sym is) le
 kept (Err e) m n is le = tt
 
 -- and the journal that it had
-pub kept-journal : {E : Type 0} (r : Result Shown E) (m : Shown) (J : List Entry) → IfOk r (λ x. x ≡ m) → IfOk r (λ _. m.journal ≡ J) → IfOk r (λ x. x.journal ≡ J)
+pub kept-journal : {E : Type 0} (r : Result Shown E) (m : Shown) (J : List Entry) → IfOk r (λ x. x ≡ m) → IfOk r (λ _. m.journal ≡ J)
+    → IfOk r (λ x. x.journal ≡ J)
 kept-journal (Ok x) m J is e = ap (λ (y : Shown). y.journal) is ∙ e
 kept-journal (Err e) m J is le = tt
 

@@ -13,9 +13,13 @@ use Rattle.kdf_schedule.specs.declared.event.EventFault.TheVariants as event_fau
 use Rattle.kdf_schedule.specs.Events.{IsInRange, clock, end, event, moving, of_number, of_numbers, of_one, of_two, of_words, orders, swap}
 use Rattle.kdf_job.specs.declared.fault.JobFault.{JobFault}
 use Rattle.kdf_job.specs.declared.place.Place.{Place}
-use Rattle.kdf_job.specs.declared.place.Place.TheVariants.{First, BehindHeader, BehindSlot, BehindStore, InDeck, BehindDeck, BehindService, BehindDevice, BehindShow, BehindPool, InSchedule, BehindEnd}
+use Rattle.kdf_job.specs.declared.place.Place.TheVariants.{First, BehindHeader, BehindSlot, BehindStore, InDeck, BehindDeck, BehindService, BehindDevice}
+use Rattle.kdf_job.specs.declared.place.Place.TheVariants.{BehindShow, BehindPool, InSchedule, BehindEnd}
 use Rattle.kdf_job.specs.Draft.{Draft, blank, fault_of, with_line}
-use Rattle.kdf_job.specs.Forms.{Form, AHeader, ASlot, AStore, ADeck, ADeckLine, AnEndDeck, ADevice, AMedium, AService, AShow, APool, ASchedule, AnEvent, AnEndJob, Told, addresses, alone, described, device_line, device_named, device_or_end, device_words, event_line, first_told, medium_line, no_medium, number_line, numbered, kind_named, of_event, or_bad, pool_device_or_end, pooled, service_or_device, show_line, slot_ends, slot_line, store_line, told, told_at}
+use Rattle.kdf_job.specs.Forms.{Form, AHeader, ASlot, AStore, ADeck, ADeckLine, AnEndDeck, ADevice, AMedium, AService, AShow, APool, ASchedule, AnEvent}
+use Rattle.kdf_job.specs.Forms.{AnEndJob, Told, addresses, alone, described, device_line, device_named, device_or_end, device_words, event_line, first_told}
+use Rattle.kdf_job.specs.Forms.{medium_line, no_medium, number_line, numbered, kind_named, of_event, or_bad, pool_device_or_end, pooled, service_or_device}
+use Rattle.kdf_job.specs.Forms.{show_line, slot_ends, slot_line, store_line, told, told_at}
 use Rattle.kdf_job.specs.Reading.{behind_line, draft_of, fault_from, job, job_fault, or_fault, or_same, read_line, with_told}
 use Rattle.kdf_job.specs.WellFormed.{IsSchedule}
 use Rattle.kdf_job.proofs.Schedules.{schedule_push}
@@ -194,9 +198,11 @@ told_form BehindService line form e = first_fits (device_or_end line) form (devi
 told_form BehindDevice line form e = first_fits (medium_line line ∷ device_or_end line) form (medium_fits line, device_or_end_fit line) e
 told_form BehindShow line form e = first_fits (slot_ends line) form (ends_fit line) e
 told_form BehindPool line form e =
-    first_fits (no_medium (medium_line line) ∷ pool_device_or_end line) form (no_medium_fits (medium_line line), (pooled_fits (device_line line), (schedule_fits line, tt))) e
+    first_fits (no_medium (medium_line line) ∷ pool_device_or_end line) form
+    (no_medium_fits (medium_line line), (pooled_fits (device_line line), (schedule_fits line, tt))) e
 told_form InSchedule line form e =
-    first_fits (event_line line ∷ alone (codes "ENDJOB") AnEndJob line ∷ []) form (of_event_fits (event line) (event_right line), (alone_fits (codes "ENDJOB") AnEndJob line tt, tt)) e
+    first_fits (event_line line ∷ alone (codes "ENDJOB") AnEndJob line ∷ []) form
+    (of_event_fits (event line) (event_right line), (alone_fits (codes "ENDJOB") AnEndJob line tt, tt)) e
 told_form BehindEnd line form e = absurd cc
 
 -- ---- line by line
@@ -205,13 +211,15 @@ with_form : (form : Form) (d : Draft) → IsSchedule d.events → IsTold form �
 with_form (AnEvent what) d was range free = schedule_push d.events what was range free
 with_form form d was range free = was
 
-with_fault : (form : Form) (d e : Draft) (o : Option JobFault) → fault_of form d ≡ o → IsSchedule d.events → IsTold form → or_fault form d o ≡ Ok e → IsSchedule e.events
+with_fault : (form : Form) (d e : Draft) (o : Option JobFault) → fault_of form d ≡ o → IsSchedule d.events → IsTold form → or_fault form d o ≡ Ok e
+    → IsSchedule e.events
 with_fault form d e None free was told_so is =
     let same : with_line form d ≡ e = cc in
     subst (λ (x : Draft). IsSchedule x.events) same (with_form form d was told_so free)
 with_fault form d e (Some fault) free was told_so is = absurd cc
 
-with_told_form : (d e : Draft) (line : List ℕ) (r : Result Form JobFault) → told_at d.place line ≡ r → IsSchedule d.events → with_told d r ≡ Ok e → IsSchedule e.events
+with_told_form : (d e : Draft) (line : List ℕ) (r : Result Form JobFault) → told_at d.place line ≡ r → IsSchedule d.events → with_told d r ≡ Ok e
+    → IsSchedule e.events
 with_told_form d e line (Err fault) tells was is = absurd cc
 with_told_form d e line (Ok form) tells was is = with_fault form d e (fault_of form d) refl was (told_form d.place line form tells) is
 
@@ -219,7 +227,8 @@ line_read : (d e : Draft) (line : List ℕ) → IsSchedule d.events → read_lin
 unfolding read_line
 line_read d e line was is = with_told_form d e line (told_at d.place line) refl was is
 
-behind : (n : ℕ) (d : Draft) (rest : List (List ℕ)) (r : Result Draft JobFault) → ((e : Draft) → r ≡ Ok e → fault_from (n + 1) e rest ≡ None → IsSchedule (draft_of e rest).events)
+behind : (n : ℕ) (d : Draft) (rest : List (List ℕ)) (r : Result Draft JobFault)
+    → ((e : Draft) → r ≡ Ok e → fault_from (n + 1) e rest ≡ None → IsSchedule (draft_of e rest).events)
     → behind_line n r (λ e. fault_from (n + 1) e rest) ≡ None → IsSchedule (draft_of (or_same d r) rest).events
 behind n d rest (Err fault) then free = absurd cc
 behind n d rest (Ok e) then free = then e refl free

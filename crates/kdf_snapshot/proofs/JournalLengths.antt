@@ -2,10 +2,12 @@
 use Rattle.std.proofs.Common.{ℕ, ◌+◌, ◌*◌, ◌<◌, ◌≤◌, ◌^◌, Bool, true, false, cond, eqb, List, [], ◌∷◌, length, ap, arith, length-append}
 use Rattle.std.proofs.lemmas.List.{length-replicate}
 use Rattle.kdf_journal.specs.declared.entry.Entry.{Entry}
-use Rattle.kdf_journal.specs.declared.entry.Entry.TheVariants.{Ran, Start, Answer, Take, Give, Fail, Ended, Lov, Busy, Wait, Idle, Move as MoveEntry, End as EndEntry, Clock as ClockEntry, Swap as SwapEntry}
+use Rattle.kdf_journal.specs.declared.entry.Entry.TheVariants.{Ran, Start, Answer, Take, Give, Fail, Ended, Lov, Busy, Wait, Idle, Move as MoveEntry}
+use Rattle.kdf_journal.specs.declared.entry.Entry.TheVariants.{End as EndEntry, Clock as ClockEntry, Swap as SwapEntry}
 use Rattle.kdf_journal.specs.Counts.{ByGroup, ByDevice, ByPool}
 use Rattle.kdf_journal.specs.Joined.{joined, pushed}
-use Rattle.kdf_journal.specs.Steps.{Note, Quiet, Began, Answered, Took, Gave, Failed, Finished, Step, Obeys, Holds, Waits, Moves, Ends, Sets, Swaps, added, journal_of, noted, steps}
+use Rattle.kdf_journal.specs.Steps.{Note, Quiet, Began, Answered, Took, Gave, Failed, Finished, Step, Obeys, Holds, Waits, Moves, Ends, Sets, Swaps, added}
+use Rattle.kdf_journal.specs.Steps.{journal_of, noted, steps}
 use Rattle.kdf_schedule.specs.declared.event.Event.{Event}
 use Rattle.kdf_schedule.specs.declared.event.Event.TheVariants.{Orders, Move, End, Clock, Swap}
 use Rattle.kdf_schedule.specs.Calls.{Call, AnOrder, calls_made, calls_of, order_count, orders_in}

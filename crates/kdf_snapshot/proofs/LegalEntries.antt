@@ -1,5 +1,6 @@
 -- The entries of a journal that is true for a service fit their types.
-use Rattle.std.proofs.Common.{◌≡◌, ℕ, zero, suc, ◌+◌, ◌*◌, ◌<◌, ◌≤◌, ◌^◌, Bool, true, false, cond, eqb, List, [], ◌∷◌, ◌++◌, Option, Some, None, is_some, All, refl, sym, ap, ◌∙◌, subst, arith}
+use Rattle.std.proofs.Common.{◌≡◌, ℕ, zero, suc, ◌+◌, ◌*◌, ◌<◌, ◌≤◌, ◌^◌, Bool, true, false, cond, eqb, List, [], ◌∷◌, ◌++◌, Option, Some, None, is_some, All}
+use Rattle.std.proofs.Common.{refl, sym, ap, ◌∙◌, subst, arith}
 use Rattle.std.specs.Prelude.{find, replicate, unwrap_or}
 use Rattle.std.specs.List.{list_any, range_with_len}
 use Rattle.std.specs.Option.{option_map}
@@ -10,7 +11,8 @@ use Rattle.kdf_journal.specs.declared.entry.Entry.{Entry}
 use Rattle.kdf_journal.specs.declared.entry.Entry.TheVariants.{Ran}
 use Rattle.kdf_journal.specs.Counts.{ByGroup, ByDevice, ByPool, answers as answers_of, calls, calls_in, last_hold, ran, ran_in}
 use Rattle.kdf_journal.specs.Printed.{IsEntry}
-use Rattle.kdf_journal.specs.Steps.{Note, Quiet, Began, Answered, Took, Gave, Failed, Finished, Step, Obeys, Holds, Waits, Moves, Ends, Sets, Swaps, added, journal_of, steps}
+use Rattle.kdf_journal.specs.Steps.{Note, Quiet, Began, Answered, Took, Gave, Failed, Finished, Step, Obeys, Holds, Waits, Moves, Ends, Sets, Swaps, added}
+use Rattle.kdf_journal.specs.Steps.{journal_of, steps}
 use Rattle.kdf_journal.proofs.Added.{calls-added, last_hold-added}
 use Rattle.kdf_schedule.specs.declared.event.Event.{Event}
 use Rattle.kdf_schedule.specs.declared.event.Event.TheVariants.{Orders, Move, End, Clock, Swap}
@@ -24,7 +26,8 @@ use Rattle.kdf_course.proofs.Steps.{legal-journal_of}
 use Rattle.kdf_transfer.specs.ByNumber.{device_count}
 use Rattle.kdf_transfer.specs.Slots.{Slot}
 use Rattle.kdf_processor.specs.declared.step.Need.TheVariants.{Group, Device}
-use Rattle.kdf_processor.specs.Effect.{IsBusy, IsOut, Time, FreeOf, OfService, Effect, Failing, Ending, Changing, Fetching, Keeping, Testing, Starting, Asking, Claiming, Returning, Spooling}
+use Rattle.kdf_processor.specs.Effect.{IsBusy, IsOut, Time, FreeOf, OfService, Effect, Failing, Ending, Changing, Fetching, Keeping, Testing, Starting, Asking}
+use Rattle.kdf_processor.specs.Effect.{Claiming, Returning, Spooling}
 use Rattle.kdf_processor.specs.Needs.{needs, next_effect}
 use Rattle.kdf_processor.specs.Row.{done_by}
 use Rattle.kdf_processor.specs.State.{State, word_at}
@@ -143,7 +146,8 @@ module _ (answers : ℕ → ℕ → Type 0) (are_words : (n a : ℕ) → n < 2 ^
     ToldBy e (Took d) = IsAnswer e (is_served answers slots J p) d
     ToldBy e note = Unit {0}
 
-    note_small : (e : Effect) (s : State) (v : ℕ) (n : Note) → s.registers.ran ≤ calls J → IsFixed s.stock.claims → IsFit s.stock.claims e → IsChecked s.stock.claims e
+    note_small : (e : Effect) (s : State) (v : ℕ) (n : Note) → s.registers.ran ≤ calls J → IsFixed s.stock.claims → IsFit s.stock.claims e
+        → IsChecked s.stock.claims e
         → n ≡ note_of_outcome (done_by (λ _. v) e s) → ToldBy e n → IsSmallNote n
     note_small (Starting d o first last after) s v n less fix fit checked is told =
         subst IsSmallNote (sym is) (omega (arith, claim_small s.stock.claims d _ checked.0, few_devices), omega arith)
@@ -152,7 +156,8 @@ module _ (answers : ℕ → ℕ → Type 0) (are_words : (n a : ℕ) → n < 2 ^
         subst IsSmallNote (sym is) (subst (λ x. x < 2 ^ 64) (sym answer) (bit_small (is_pending_after slots J p (Device d))))
     note_small (Asking (IsOut first last) after) s v n less fix fit checked is told =
         let answer = subst (ToldBy (Asking (IsOut first last) after)) is told in
-        subst IsSmallNote (sym is) (subst (λ x. x < 2 ^ 64) (sym answer) (bit_small (list_any (λ g. is_pending_after slots J p (Group g)) (groups_of first last))))
+        subst IsSmallNote (sym is) (subst (λ x. x < 2 ^ 64) (sym answer)
+        (bit_small (list_any (λ g. is_pending_after slots J p (Group g)) (groups_of first last))))
     note_small (Asking Time after) s v n less fix fit checked is told =
         let answer = subst (ToldBy (Asking Time after)) is told in
         subst IsSmallNote (sym is) (subst (λ x. x < 2 ^ 64) (sym answer) (clock_small J was))
@@ -189,7 +194,8 @@ module _ (answers : ℕ → ℕ → Type 0) (are_words : (n a : ℕ) → n < 2 ^
     order_small : (note : Note) → any_answer slots J p note → is_true_for answers slots J p note → IsSmallNote note
     order_small note any told =
         let s = own slots J p in
-        note_small (next_effect s) s any.0 note (own_ran slots J p) (fixed slots J p are) (next_fit s.stock.claims (word_at s) s.registers) (next_checked s) any.1 (told_by note told)
+        note_small (next_effect s) s any.0 note (own_ran slots J p) (fixed slots J p are) (next_fit s.stock.claims (word_at s) s.registers)
+        (next_checked s) any.1 (told_by note told)
 
     device_small : (d : ℕ) → first_need (lone_world slots J) p ≡ Some (Device d) → d < 2 ^ 8
     unfolding first_need
@@ -199,7 +205,8 @@ module _ (answers : ℕ → ℕ → Type 0) (are_words : (n a : ℕ) → n < 2 ^
   group_small J p g legal =
       let held : last_hold p (added J (Holds p (ByGroup g))) ≡ Some (ByGroup g) =
       last_hold-added p J (Holds p (ByGroup g)) ∙ ap (λ b. cond b (Some (ByGroup g)) (last_hold p J)) (eq-eqb p p refl) in
-      let near : 32 * g < size_of slots p = subst (λ o. IsNearHold (size_of slots p) (option_map need_of o)) held (legal-near slots (added J (Holds p (ByGroup g))) legal p) in
+      let near : 32 * g < size_of slots p = subst (λ o. IsNearHold (size_of slots p) (option_map need_of o)) held
+      (legal-near slots (added J (Holds p (ByGroup g))) legal p) in
       omega (arith, small p)
 
   step_small : (J : List Entry) (s : Step) → IsLegal slots (added J s) → AreSmall J → calls J + 1 < 2 ^ 32
@@ -222,18 +229,22 @@ module _ (answers : ℕ → ℕ → Type 0) (are_words : (n a : ℕ) → n < 2 ^
   step_small J (Sets t) legal was count met told fits = fits
   step_small J (Swaps p q) legal was count met told fits = fits
 
-  journal_small : (P : List Step) → EachMeets slots P → course.EachNoted (is_true_for answers slots) P → FitCalls (answered P) → calls (journal_of P) + 1 < 2 ^ 32 → AreSmall (journal_of P)
+  journal_small : (P : List Step) → EachMeets slots P → course.EachNoted (is_true_for answers slots) P → FitCalls (answered P)
+      → calls (journal_of P) + 1 < 2 ^ 32 → AreSmall (journal_of P)
   journal_small [] each told fit count = tt
   journal_small (s ∷ P) each told fit count =
       let before = calls-added (journal_of P) s in
       let was = journal_small P each.0 told.0 (calls_front (answered P) (call_of s ∷ []) fit) (omega arith) in
       added_small (journal_of P) s was
-      (step_small (journal_of P) s (legal-journal_of (lone_dispatched slots) (any_answer slots) (s ∷ P) each) was (omega arith) each.1 told.1 (calls_last (answered P) (call_of s) fit))
+      (step_small (journal_of P) s (legal-journal_of (lone_dispatched slots) (any_answer slots) (s ∷ P) each) was (omega arith) each.1 told.1
+      (calls_last (answered P) (call_of s) fit))
 
-  pub fitting : (events : List Event) (J : List Entry) → All IsInRange events → order_count events ≤ 20000000 → IsJournalFor answers slots events J → All IsEntry J
+  pub fitting : (events : List Event) (J : List Entry) → All IsInRange events → order_count events ≤ 20000000 → IsJournalFor answers slots events J
+      → All IsEntry J
   fitting events J range most j =
       let count = few-calls slots events J j.legal j.whole in
-      let fit : FitCalls (answered (steps J)) = calls_front (answered (steps J)) j.whole.left (subst FitCalls (sym j.whole.follows.in_order) (events_fit events range)) in
+      let fit : FitCalls (answered (steps J)) =
+      calls_front (answered (steps J)) j.whole.left (subst FitCalls (sym j.whole.follows.in_order) (events_fit events range)) in
       let same : calls (journal_of (steps J)) ≡ calls J = ap calls j.legal.in_form in
       let are_small = journal_small (steps J) j.legal.each j.truly fit (omega arith) in
       entries_fit J (subst AreSmall j.legal.in_form are_small) (omega arith)
@@ -243,7 +254,8 @@ module _ (answers : ℕ → ℕ → Type 0) (are_words : (n a : ℕ) → n < 2 ^
 abbrev IsWithin : Slot → Type 0
 IsWithin s = (s.p < 4) × (s.size ≤ 8192)
 
-is_number : (b : Bool) (s : Slot) (p : ℕ) (rest : Option Slot) → eqb s.p p ≡ b → s.p < 4 → (is_some rest ≡ true → p < 4) → is_some (cond b (Some s) rest) ≡ true → p < 4
+is_number : (b : Bool) (s : Slot) (p : ℕ) (rest : Option Slot) → eqb s.p p ≡ b → s.p < 4 → (is_some rest ≡ true → p < 4)
+    → is_some (cond b (Some s) rest) ≡ true → p < 4
 is_number true s p rest same few others is = omega (arith, eqb-true s.p p same)
 is_number false s p rest same few others is = others is
 
@@ -252,7 +264,8 @@ numbers_few [] all p is = absurd cc
 numbers_few (s ∷ slots) all p is =
     is_number (eqb s.p p) s p (slot_of slots p) refl (all 0 s (omega arith)).0 (numbers_few slots (λ k d lt. all (suc k) d (omega arith)) p) is
 
-is_size : (b : Bool) (s : Slot) (rest : Option Slot) → s.size ≤ 8192 → (start_of rest).stock.claims.size ≤ 8192 → (start_of (cond b (Some s) rest)).stock.claims.size ≤ 8192
+is_size : (b : Bool) (s : Slot) (rest : Option Slot) → s.size ≤ 8192 → (start_of rest).stock.claims.size ≤ 8192
+    → (start_of (cond b (Some s) rest)).stock.claims.size ≤ 8192
 is_size true s rest small others = small
 is_size false s rest small others = others
 
@@ -261,7 +274,8 @@ sizes_small [] all p = omega arith
 sizes_small (s ∷ slots) all p =
     is_size (eqb s.p p) s (slot_of slots p) (all 0 s (omega arith)).1 (sizes_small slots (λ k d lt. all (suc k) d (omega arith)) p)
 
-pub fitting_within : (answers : ℕ → ℕ → Type 0) → ((n a : ℕ) → n < 2 ^ 48 → answers n a → a < 2 ^ 48) → (slots : List Slot) → AreSlots slots → All IsWithin slots
+pub fitting_within : (answers : ℕ → ℕ → Type 0) → ((n a : ℕ) → n < 2 ^ 48 → answers n a → a < 2 ^ 48) → (slots : List Slot) → AreSlots slots
+    → All IsWithin slots
     → (events : List Event) → IsSchedule events → (J : List Entry) → IsJournalFor answers slots events J → All IsEntry J
 fitting_within answers are_words slots are all events schedule J j =
     fitting answers are_words slots are (numbers_few slots all) (sizes_small slots all) events J schedule.each schedule.few_orders j

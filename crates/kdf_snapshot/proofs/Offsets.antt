@@ -1,5 +1,6 @@
 -- How long the text of lines is.
-use Rattle.std.proofs.Common.{◌≡◌, ℕ, ◌+◌, ◌<◌, ◌≤◌, Bool, true, false, cond, eqb, List, [], ◌∷◌, ◌++◌, length, take, drop, sym, ap, ◌∙◌, arith, length-append, length-drop, length-take}
+use Rattle.std.proofs.Common.{◌≡◌, ℕ, ◌+◌, ◌<◌, ◌≤◌, Bool, true, false, cond, eqb, List, [], ◌∷◌, ◌++◌, length, take, drop, sym, ap, ◌∙◌, arith, length-append}
+use Rattle.std.proofs.Common.{length-drop, length-take}
 use Rattle.std.proofs.lemmas.List.{take-append-drop, take-take}
 use Rattle.kdf_text.specs.Lines.{in_first, lines}
 use Rattle.kdf_text.specs.Text.{text}
@@ -40,7 +41,8 @@ few-lines (b ∷ bytes) =
     longer (l ∷ ls) h = omega arith
 
 parts-long : (k : ℕ) (ls : List (List ℕ)) → length (text (take k ls)) + length (text (drop k ls)) ≡ length (text ls)
-parts-long k ls = sym (length-append (text (take k ls)) (text (drop k ls))) ∙ ap length (sym (text-append (take k ls) (drop k ls))) ∙ ap (λ ks. length (text ks)) (take-append-drop k ls)
+parts-long k ls = sym (length-append (text (take k ls)) (text (drop k ls))) ∙ ap length (sym (text-append (take k ls) (drop k ls)))
+    ∙ ap (λ ks. length (text ks)) (take-append-drop k ls)
 
 -- where another line follows, the lines before it are within the text
 pub front-within : (bytes : List ℕ) (k : ℕ) → k < length (lines bytes) → length (text (take k (lines bytes))) ≤ length bytes

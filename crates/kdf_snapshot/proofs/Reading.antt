@@ -1,5 +1,6 @@
 -- Lines that are read one after the other.
-use Rattle.std.proofs.Common.{◌≡◌, ℕ, zero, suc, ◌+◌, ◌<◌, ◌≤◌, true, false, cond, eqb, List, [], ◌∷◌, ◌++◌, length, take, drop, Some, Result, Ok, Err, refl, sym, ap, ◌∙◌, arith, append_assoc, length-append, length-drop}
+use Rattle.std.proofs.Common.{◌≡◌, ℕ, zero, suc, ◌+◌, ◌<◌, ◌≤◌, true, false, cond, eqb, List, [], ◌∷◌, ◌++◌, length, take, drop, Some, Result, Ok, Err, refl}
+use Rattle.std.proofs.Common.{sym, ap, ◌∙◌, arith, append_assoc, length-append, length-drop}
 use Rattle.std.proofs.lemmas.List.{drop-drop, drop-take, take-append-drop, take-take}
 use Rattle.std.proofs.lemmas.Bool.Decides.{nat_tests}
 use Rattle.kdf_text.specs.Ahead.{ahead}
@@ -32,10 +33,12 @@ passed-none at = record { rest = refl; number = omega arith; offset = omega arit
 
 pub take-more : {A : Type 0} (n m : ℕ) (xs : List A) → take (n + m) xs ≡ take n xs ++ take m (drop n xs)
 take-more n m xs =
-    sym (take-append-drop n (take (n + m) xs)) ∙ ap (λ ys. ys ++ drop n (take (n + m) xs)) (take-take n (n + m) xs (omega arith)) ∙ ap (λ ys. take n xs ++ ys) (drop-take n m xs)
+    sym (take-append-drop n (take (n + m) xs)) ∙ ap (λ ys. ys ++ drop n (take (n + m) xs)) (take-take n (n + m) xs (omega arith))
+    ∙ ap (λ ys. take n xs ++ ys) (drop-take n m xs)
 
 pub text-more : (n m : ℕ) (ls : List (List ℕ)) → length (text (take (n + m) ls)) ≡ length (text (take n ls)) + length (text (take m (drop n ls)))
-text-more n m ls = ap (λ ks. length (text ks)) (take-more n m ls) ∙ ap length (text-append (take n ls) (take m (drop n ls))) ∙ length-append (text (take n ls)) (text (take m (drop n ls)))
+text-more n m ls = ap (λ ks. length (text ks)) (take-more n m ls) ∙ ap length (text-append (take n ls) (take m (drop n ls)))
+    ∙ length-append (text (take n ls)) (text (take m (drop n ls)))
 
 pub passed-more : (n m : ℕ) (a b c : Cursor) → Passed n a b → Passed m b c → Passed (n + m) a c
 passed-more n m a b c p q =
@@ -66,7 +69,8 @@ pub after-none : (r : Result (List Entry) (SnapshotFault × ℕ)) → after [] r
 after-none (Ok others) = refl
 after-none (Err found) = refl
 
-after-one : (read : List Entry) (n : ℕ) (e : Entry) (r : Result (List Entry) (SnapshotFault × ℕ)) → after read (with_entry n (Some e) r) ≡ after (read ++ e ∷ []) r
+after-one : (read : List Entry) (n : ℕ) (e : Entry) (r : Result (List Entry) (SnapshotFault × ℕ))
+    → after read (with_entry n (Some e) r) ≡ after (read ++ e ∷ []) r
 after-one read n e (Ok others) = ap Ok (sym (append_assoc read (e ∷ []) others))
 after-one read n e (Err found) = refl
 

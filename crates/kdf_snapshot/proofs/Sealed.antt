@@ -33,7 +33,8 @@ sum_on : (k n : ℕ) → k + n + 1 ≡ k + (n + 1)
 sum_on k n = omega arith
 
 -- another line
-pub line-passed : (a b c : Cursor) (l : List ℕ) → NoEndSoFar a b → 0 < length b.lines.rest.now → Passed 1 b c → l ≡ line (ahead b.lines) 1 → is_text end_line l ≡ false → NoEndSoFar a c
+pub line-passed : (a b c : Cursor) (l : List ℕ) → NoEndSoFar a b → 0 < length b.lines.rest.now → Passed 1 b c → l ≡ line (ahead b.lines) 1
+    → is_text end_line l ≡ false → NoEndSoFar a c
 line-passed a b c l so some p here isnt = record {
   count = so.count + 1;
   passed = passed-more so.count 1 a b c so.passed p;
@@ -42,7 +43,8 @@ line-passed a b c l so some p here isnt = record {
 }
 
 -- ENDSNAPSHOT
-pub end-passed : (a b c : Cursor) (l : List ℕ) → NoEndSoFar a b → 0 < length b.lines.rest.now → Passed 1 b c → l ≡ line (ahead b.lines) 1 → is_text end_line l ≡ true → PassedEnd a c b.offset
+pub end-passed : (a b c : Cursor) (l : List ℕ) → NoEndSoFar a b → 0 < length b.lines.rest.now → Passed 1 b c → l ≡ line (ahead b.lines) 1
+    → is_text end_line l ≡ true → PassedEnd a c b.offset
 end-passed a b c l so some p here is = record {
   sealed = so.count;
   first = λ k. so.none k ∙ next-line (k + so.count) (ahead b.lines) (some_ahead b.lines.rest.now some) ∙ rw (← here, is) refl;

@@ -28,9 +28,11 @@ seen_at m p P shows there =
     (ap (λ states. state_in m.slots states p) shows ∙ state_there (seen_of m.slots m.journal) p m.slots (its_slot m.slots m.states p P there))
 
 pub words_seen : (m : Shown) → ShowsSeen m → (slots : List SlotJob) → All (HasStore m) slots
-    → flat_map (λ (slot : SlotJob). slot_lines slot (state_at m slot.p)) slots ≡ flat_map (λ (slot : SlotJob). slot_lines slot (seen_of m.slots m.journal slot.p)) slots
+    → flat_map (λ (slot : SlotJob). slot_lines slot (state_at m slot.p)) slots
+    ≡ flat_map (λ (slot : SlotJob). slot_lines slot (seen_of m.slots m.journal slot.p)) slots
 words_seen m shows [] has = refl
 words_seen m shows (slot ∷ slots) has =
-    let first : slot_lines slot (state_at m slot.p) ≡ slot_lines slot (seen_of m.slots m.journal slot.p) = ap (slot_lines slot) (seen_at m slot.p _ shows (has 0 slot (omega arith))) in
+    let first : slot_lines slot (state_at m slot.p) ≡ slot_lines slot (seen_of m.slots m.journal slot.p) =
+    ap (slot_lines slot) (seen_at m slot.p _ shows (has 0 slot (omega arith))) in
     let others = words_seen m shows slots (λ k d lt. has (suc k) d (omega arith)) in
     rw (first, others) refl

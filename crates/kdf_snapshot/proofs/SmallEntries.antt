@@ -8,7 +8,8 @@ use Rattle.kdf_journal.specs.declared.entry.Entry.TheVariants.{Ran, Start, Answe
 use Rattle.kdf_journal.specs.Counts.{Hold, ByGroup, ByDevice, ByPool, calls, calls_in, clock, clock_after, pending, pending_after}
 use Rattle.kdf_journal.specs.Joined.{joined, pushed}
 use Rattle.kdf_journal.specs.Printed.{IsEntry}
-use Rattle.kdf_journal.specs.Steps.{Note, Quiet, Began, Answered, Took, Gave, Failed, Finished, Step, Obeys, Holds, Waits, Moves, Ends, Sets, Swaps, added, noted}
+use Rattle.kdf_journal.specs.Steps.{Note, Quiet, Began, Answered, Took, Gave, Failed, Finished, Step, Obeys, Holds, Waits, Moves, Ends, Sets, Swaps, added}
+use Rattle.kdf_journal.specs.Steps.{noted}
 
 -- the numbers of an entry are those of its type, but for what it counts
 abbrev pub IsSmall : Entry → Type 0
@@ -79,7 +80,8 @@ added_small J (Swaps p q) was small = pushed_small J (Swap p q) was (small.0, sm
 
 -- ---- what is told by such entries
 
-some_device : (b : Bool) (d e p k : ℕ) (o : Option (ℕ × ℕ)) → eqb e d ≡ b → e < 2 ^ 8 → (is_some o ≡ true → d < 2 ^ 8) → is_some (cond b (Some (p, k)) o) ≡ true → d < 2 ^ 8
+some_device : (b : Bool) (d e p k : ℕ) (o : Option (ℕ × ℕ)) → eqb e d ≡ b → e < 2 ^ 8 → (is_some o ≡ true → d < 2 ^ 8)
+    → is_some (cond b (Some (p, k)) o) ≡ true → d < 2 ^ 8
 some_device true d e p k o same small was some = omega (arith, eqb-true e d same)
 some_device false d e p k o same small was some = was some
 
@@ -92,7 +94,8 @@ one_pending d o (Start p e k) small was some = some_device (eqb e d) d e p k o r
 one_pending d o (End e) small was some = no_device (eqb e d) d o was some
 one_pending d o e small was some = was some
 
-pending_from : (d : ℕ) (o : Option (ℕ × ℕ)) (J : List Entry) → AreSmall J → (is_some o ≡ true → d < 2 ^ 8) → is_some (fold (pending_after d) o J) ≡ true → d < 2 ^ 8
+pending_from : (d : ℕ) (o : Option (ℕ × ℕ)) (J : List Entry) → AreSmall J → (is_some o ≡ true → d < 2 ^ 8) → is_some (fold (pending_after d) o J) ≡ true
+    → d < 2 ^ 8
 pending_from d o [] are was some = was some
 pending_from d o (e ∷ J) are was some = pending_from d (pending_after d o e) J are.1 (one_pending d o e are.0 was) some
 

@@ -30,16 +30,20 @@ unserved-journal : (answers : ℕ → ℕ → Type 0) → IsOne answers → (slo
     → (J : List Entry) → IsJournalFor answers slots events J → IsJournalFor unasked slots events J
 unserved-journal answers one slots none events rises J j =
     let k = a_journal_for unasked slots none events rises in
-    let also : IsJournalFor answers slots events k.0 = record { legal = k.1.legal; truly = true_for_more unasked answers (λ word answer is. absurd is) slots k.0 k.1.truly; whole = k.1.whole } in
+    let also : IsJournalFor answers slots events k.0 =
+    record { legal = k.1.legal; truly = true_for_more unasked answers (λ word answer is. absurd is) slots k.0 k.1.truly; whole = k.1.whole } in
     subst (IsJournalFor unasked slots events) (one_for answers slots one events k.0 J also j) k.1
 
-pub unserved-ok : (answers : ℕ → ℕ → Type 0) (slots : List Slot) → NoneServed slots → (events : List Event) → IsRising 0 events → (r : Result Shown RebuildError)
-    → IfOk r (λ m. m.slots ≡ slots) → IfOk r (λ m. IsJournalFor answers m.slots events m.journal) → IsOne answers → IfOk r (λ m. IsJournalFor unasked m.slots events m.journal)
+pub unserved-ok : (answers : ℕ → ℕ → Type 0) (slots : List Slot) → NoneServed slots → (events : List Event) → IsRising 0 events
+    → (r : Result Shown RebuildError)
+    → IfOk r (λ m. m.slots ≡ slots) → IfOk r (λ m. IsJournalFor answers m.slots events m.journal) → IsOne answers
+    → IfOk r (λ m. IsJournalFor unasked m.slots events m.journal)
 unserved-ok answers slots none events rises (Ok m) same j one =
     unserved-journal answers one m.slots (subst NoneServed (sym same) none) events rises m.journal j
 unserved-ok answers slots none events rises (Err e) same j one = tt
 
-pub unserved-err : (answers : ℕ → ℕ → Type 0) (slots : List Slot) → NoneServed slots → (events : List Event) → IsRising 0 events → (entries : List Entry) → (r : Result Shown RebuildError)
+pub unserved-err : (answers : ℕ → ℕ → Type 0) (slots : List Slot) → NoneServed slots → (events : List Event) → IsRising 0 events → (entries : List Entry)
+    → (r : Result Shown RebuildError)
     → IfErr r (IsRefused answers slots events entries) → IsOne answers → IfErr r (IsRefused unasked slots events entries)
 unserved-err answers slots none events rises entries (Ok m) j one = tt
 unserved-err answers slots none events rises entries (Err (Differs n)) j one = (j.0, unserved-journal answers one slots none events rises j.0 j.1, j.2)

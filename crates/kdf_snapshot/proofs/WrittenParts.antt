@@ -1,5 +1,6 @@
 -- The parts of a snapshot that was written.
-use Rattle.std.proofs.Common.{◌≡◌, ℕ, suc, ◌+◌, ◌≤◌, true, false, List, [], ◌∷◌, ◌++◌, length, take, drop, map, Some, Ok, codes, refl, sym, ap, ◌∙◌, arith, append_assoc, length-append, All}
+use Rattle.std.proofs.Common.{◌≡◌, ℕ, suc, ◌+◌, ◌≤◌, true, false, List, [], ◌∷◌, ◌++◌, length, take, drop, map, Some, Ok, codes, refl, sym, ap, ◌∙◌, arith}
+use Rattle.std.proofs.Common.{append_assoc, length-append, All}
 use Rattle.std.specs.List.{position_from}
 use Rattle.std.proofs.lemmas.List.{drop_at, length-map, take_at}
 use Rattle.std.specs.Fmt.{decimal}
@@ -107,9 +108,11 @@ end_found k (l ∷ ls) rest can =
     next n m = omega arith
 
 -- the offset after first lines that have their ends
-offset_front : (bytes : List ℕ) (xs ys : List (List ℕ)) (n : ℕ) → lines bytes ≡ xs ++ ys → length xs ≡ n → length (text xs) ≤ length bytes → offset bytes n ≡ length (text xs)
+offset_front : (bytes : List ℕ) (xs ys : List (List ℕ)) (n : ℕ) → lines bytes ≡ xs ++ ys → length xs ≡ n → length (text xs) ≤ length bytes
+    → offset bytes n ≡ length (text xs)
 offset_front bytes xs ys n is many within =
-    let front : length (text (take n (lines bytes))) ≡ length (text xs) = ap (λ ls. length (text (take n ls))) is ∙ ap (λ ls. length (text ls)) (take_at xs ys n many) in
+    let front : length (text (take n (lines bytes))) ≡ length (text xs) = ap (λ ls. length (text (take n ls))) is
+    ∙ ap (λ ls. length (text ls)) (take_at xs ys n many) in
     omega (arith, front)
 
 -- ---- the whole

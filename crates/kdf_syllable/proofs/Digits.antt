@@ -27,7 +27,8 @@ behind-below (byte ∷ bytes) digits =
     rw (pow-suc 256 (length bytes), behind-split bytes (256 * 0 + byte))
     (mul-add-lt (256 * 0 + byte) (256 ^ length bytes) (behind 0 bytes) 256 (omega (arith, digits 0)) rest)
 
-behind-digit : (bytes : List ℕ) (number i : ℕ) → ((k : ℕ) → get_or bytes k 0 < 256) → i < length bytes → behind number bytes / 256 ^ (length bytes - 1 - i) % 256 ≡ get_or bytes i 0
+behind-digit : (bytes : List ℕ) (number i : ℕ) → ((k : ℕ) → get_or bytes k 0 < 256) → i < length bytes
+    → behind number bytes / 256 ^ (length bytes - 1 - i) % 256 ≡ get_or bytes i 0
 unfolding behind
 behind-digit [] number i digits h = absurd (omega arith)
 behind-digit (byte ∷ bytes) number zero digits h =

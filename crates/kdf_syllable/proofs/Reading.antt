@@ -1,5 +1,6 @@
 -- The order that bytes spell, read back from them: orders that are spelt alike are one order.
-use Rattle.std.proofs.Common.{◌≡◌, ℕ, ◌+◌, ◌-◌, ◌*◌, ◌/◌, ◌%◌, ◌^◌, ◌<◌, ◌≤◌, ℤ, pos, negsuc, ◌≤ℤ◌, Bool, true, false, eqb, ltb, ◌||◌, List, [], ◌∷◌, lit<, refl, sym, ap, ◌∙◌, arith}
+use Rattle.std.proofs.Common.{◌≡◌, ℕ, ◌+◌, ◌-◌, ◌*◌, ◌/◌, ◌%◌, ◌^◌, ◌<◌, ◌≤◌, ℤ, pos, negsuc, ◌≤ℤ◌, Bool, true, false, eqb, ltb, ◌||◌, List, [], ◌∷◌, lit<}
+use Rattle.std.proofs.Common.{refl, sym, ap, ◌∙◌, arith}
 use Rattle.std.specs.Int.{from_bool}
 use Rattle.std.specs.Prelude.{if◌then◌else◌}
 use Rattle.std.proofs.lemmas.Bool.Decides.{nat_tests}
@@ -83,7 +84,8 @@ three-direct n low high =
     let test_3 : ltb (n / 2 ^ 16) 0xe0 ≡ true = grind (arith, nat_tests) in
     rw (test, test_2, test_3, bytes-whole n)
 
-direct-bits : (n t u q a : ℕ) → n ≡ 0xc00000 + t * 2 ^ 20 + u * 2 ^ 19 + q * 2 ^ 15 + a → t < 2 → u < 2 → q < 16 → a < 2 ^ 15 → direct n ≡ Direct (eqb t 1) (eqb u 1) q a
+direct-bits : (n t u q a : ℕ) → n ≡ 0xc00000 + t * 2 ^ 20 + u * 2 ^ 19 + q * 2 ^ 15 + a → t < 2 → u < 2 → q < 16 → a < 2 ^ 15
+    → direct n ≡ Direct (eqb t 1) (eqb u 1) q a
 direct-bits n t u q a is t_in u_in q_in a_in =
     let t_is : n / 2 ^ 20 % 2 ≡ t = omega arith in
     let u_is : n / 2 ^ 19 % 2 ≡ u = omega arith in

@@ -1,8 +1,10 @@
 -- A number in decimal digits, read again.
-use Rattle.std.proofs.Common.{◌≡◌, ◌≢◌, ℕ, zero, suc, ◌+◌, ◌*◌, ◌-◌, ◌<◌, ◌≤◌, ◌^◌, Bool, true, false, cond, ◌&&◌, ◌||◌, not, eqb, leb, List, [], ◌∷◌, length, get_or, fold, Option, Some, None, refl, sym, ◌∙◌, ap, ⊎_elim, arith, rules}
+use Rattle.std.proofs.Common.{◌≡◌, ◌≢◌, ℕ, zero, suc, ◌+◌, ◌*◌, ◌-◌, ◌<◌, ◌≤◌, ◌^◌, Bool, true, false, cond, ◌&&◌, ◌||◌, not, eqb, leb, List, [], ◌∷◌, length}
+use Rattle.std.proofs.Common.{get_or, fold, Option, Some, None, refl, sym, ◌∙◌, ap, ⊎_elim, arith, rules}
 use Rattle.std.specs.Fmt.{decimal}
 use Rattle.std.specs.List.{list_all, list_any}
-use Rattle.std.proofs.lemmas.Bool.{and_parts, and_from, cases_Bool, cases_eq, eq-eqb, ne_eqb, eqb-true, eqb-false, leb-true, le-leb, not-true, or_cases, or_right, cond-true, true≢false}
+use Rattle.std.proofs.lemmas.Bool.{and_parts, and_from, cases_Bool, cases_eq, eq-eqb, ne_eqb, eqb-true, eqb-false, leb-true, le-leb, not-true, or_cases}
+use Rattle.std.proofs.lemmas.Bool.{or_right, cond-true, true≢false}
 use Rattle.std.proofs.lemmas.Fmt.{decimal_nonempty, decimal_digit, decimal-digits_value, digits_decimal, digits_value-decimal, first_decimal}
 use Rattle.std.proofs.lemmas.Str.Parse.{IsNumeralModel, numerals_by_fold}
 use Rattle.kdf_text.specs.Numbers.{is_digit, is_digits, is_number, value, number_in}
@@ -34,7 +36,8 @@ pub is_number-decimal : (n : ℕ) → n < 2 ^ 64 → is_number (decimal n) ≡ t
 is_number-decimal n small =
     rw (ne_eqb (length (decimal n)) 0 (λ e. omega (arith, decimal_nonempty n small)), digits-decimal n small) (⊎_elim
     (λ (none : n ≡ 0). rw (none, decimal_digit 0 (omega arith)) refl)
-    (λ (some : n ≢ 0). rw (ne_eqb (get_or (decimal n) 0 0) 48 (λ e. omega (arith, first_decimal n (omega arith) small))) (or_right (eqb (length (decimal n)) 1) true refl))
+    (λ (some : n ≢ 0). rw (ne_eqb (get_or (decimal n) 0 0) 48 (λ e. omega (arith, first_decimal n (omega arith) small)))
+    (or_right (eqb (length (decimal n)) 1) true refl))
     (cases_eq n 0))
 
 pub number-decimal : (low high n : ℕ) → n < 2 ^ 64 → low ≤ n → n ≤ high → number_in low high (decimal n) ≡ Some n
@@ -65,7 +68,8 @@ pub record Spells (low high n : ℕ) (word : List ℕ) : Type 0 where
 pub decimal-number : (low high n : ℕ) (word : List ℕ) → high < 2 ^ 64 → number_in low high word ≡ Some n → Spells low high n word
 decimal-number low high n word small is = go (is_number word && leb low (value word)) (leb (value word) high) refl refl is
   where
-    go : (x y : Bool) → is_number word && leb low (value word) ≡ x → leb (value word) high ≡ y → cond (x && y) (Some (value word)) None ≡ Some n → Spells low high n word
+    go : (x y : Bool) → is_number word && leb low (value word) ≡ x → leb (value word) high ≡ y → cond (x && y) (Some (value word)) None ≡ Some n
+        → Spells low high n word
     go true true front top same =
         let worth_is : value word ≡ n = cc in
         let parts = and_parts (is_number word) (leb low (value word)) front in

@@ -23,6 +23,7 @@ spaced-words [] = refl
 spaced-words (b ∷ line) =
     let some = words-some line in
     ⊎_elim
-    (λ (is : eqb b 32 ≡ true). rw (is, eqb-true b 32 is) (spaced-empty (words line) some.first some.others some.is ∙ ap (λ (l : List ℕ). 32 ∷ l) (spaced-words line)))
+    (λ (is : eqb b 32 ≡ true). rw (is, eqb-true b 32 is) (spaced-empty (words line) some.first some.others some.is
+    ∙ ap (λ (l : List ℕ). 32 ∷ l) (spaced-words line)))
     (λ (isnt : eqb b 32 ≡ false). rw isnt (spaced-in_first b (words line) some.first some.others some.is ∙ ap (λ (l : List ℕ). b ∷ l) (spaced-words line)))
     (cases_Bool (eqb b 32))

@@ -26,7 +26,8 @@ done_on v r (Claiming d after) is = record { state = refl; ran = refl }
 done_on v r (Returning pooled d after) is = record { state = refl; ran = refl }
 done_on v r (Spooling stream first last after) is = record { state = refl; ran = refl }
 
-held_on : (v : View) (r : Registers) (o : Option Need) (e : Effect) → (held_or r o (done v r e)).step ≡ step.Done → GoesOn r (held_or r o (done v r e)).registers
+held_on : (v : View) (r : Registers) (o : Option Need) (e : Effect) → (held_or r o (done v r e)).step ≡ step.Done
+    → GoesOn r (held_or r o (done v r e)).registers
 held_on v r (Some need) e is = cc
 held_on v r None e is = done_on v r e is
 

@@ -71,7 +71,8 @@ above s [] rising = All-nil (λ (t : SlotJob). s.p < t.p)
 above s (t ∷ jobs) rising = later s.p t jobs rising.0 rising.1
 
 -- what holds of each slot holds of what is loaded
-loaded_all : (P : ℕ → Type 0) (jobs : List SlotJob) (images : List (List ℕ)) → All (λ (t : SlotJob). P t.p) jobs → All (λ (l : SlotLoad). P l.p) (loads jobs images)
+loaded_all : (P : ℕ → Type 0) (jobs : List SlotJob) (images : List (List ℕ)) → All (λ (t : SlotJob). P t.p) jobs
+    → All (λ (l : SlotLoad). P l.p) (loads jobs images)
 loaded_all P [] images all = All-nil (λ (l : SlotLoad). P l.p)
 loaded_all P (s ∷ jobs) [] all = All-nil (λ (l : SlotLoad). P l.p)
 loaded_all P (s ∷ jobs) (ws ∷ images) all =
@@ -89,7 +90,8 @@ rising_is (s ∷ jobs) (ws ∷ images) rising =
     (rising_is jobs images (rising_tail s jobs rising))
 
 -- a number that no slot has, none of what is loaded has
-none_has : (d : ℕ) (jobs : List SlotJob) (images : List (List ℕ)) → owns (numbers_of jobs) d ≡ false → All (λ (l : SlotLoad). has l d ≡ false) (loads jobs images)
+none_has : (d : ℕ) (jobs : List SlotJob) (images : List (List ℕ)) → owns (numbers_of jobs) d ≡ false
+    → All (λ (l : SlotLoad). has l d ≡ false) (loads jobs images)
 none_has d [] images not = All-nil (λ (l : SlotLoad). has l d ≡ false)
 none_has d (s ∷ jobs) [] not = All-nil (λ (l : SlotLoad). has l d ≡ false)
 none_has d (s ∷ jobs) (ws ∷ images) not =
@@ -120,7 +122,8 @@ abbrev AreOthers : List ℕ → SlotJob → Type 0
 AreOthers whole s = IsDistinct nat_eq (whole ++ pool_numbers s.pool)
 
 -- each slot, where the numbers of these are among all
-each_is : (whole : List ℕ) (jobs : List SlotJob) (images : List (List ℕ)) → HaveImages jobs images → All IsSlot jobs → All (AreOthers whole) jobs → ((d : ℕ) → owns (numbers_of jobs) d ≡ true → owns whole d ≡ true) → All IsLoad (loads jobs images)
+each_is : (whole : List ℕ) (jobs : List SlotJob) (images : List (List ℕ)) → HaveImages jobs images → All IsSlot jobs → All (AreOthers whole) jobs
+    → ((d : ℕ) → owns (numbers_of jobs) d ≡ true → owns whole d ≡ true) → All IsLoad (loads jobs images)
 each_is whole [] images have each own all = All-nil IsLoad
 each_is whole (s ∷ jobs) [] have each own all = absurd have
 each_is whole (s ∷ jobs) (ws ∷ images) have each own all =
@@ -133,13 +136,15 @@ each_is whole (s ∷ jobs) (ws ∷ images) have each own all =
       fits = have.0;
       below = this.devices;
       few = λ d h. pool_small s.pool d this.lent (sym (lent s.pool d) ∙ h);
-      owned = λ d h. lent s.pool d ∙ numbers_apart whole (pool_numbers s.pool) d others (all d (ap (λ ns. owns ns d) (numbers_cons s jobs) ∙ has_left (numbers_in s.devices) (numbers_of jobs) d h));
+      owned = λ d h. lent s.pool d ∙ numbers_apart whole (pool_numbers s.pool) d others
+          (all d (ap (λ ns. owns ns d) (numbers_cons s jobs) ∙ has_left (numbers_in s.devices) (numbers_of jobs) d h));
     })
     (each_is whole jobs images have.1 (All-tail IsSlot s jobs each) (All-tail (AreOthers whole) s jobs own)
     (λ d h. all d (ap (λ ns. owns ns d) (numbers_cons s jobs) ∙ has_right (numbers_in s.devices) (numbers_of jobs) d h)))
 
 -- a pool that all slots have
-pool_all : (pool : List (ℕ × Kind)) (jobs : List SlotJob) (images : List (List ℕ)) → All (λ (t : SlotJob). pool ≡ t.pool) jobs → All (λ (l : SlotLoad). pool ≡ l.pool) (loads jobs images)
+pool_all : (pool : List (ℕ × Kind)) (jobs : List SlotJob) (images : List (List ℕ)) → All (λ (t : SlotJob). pool ≡ t.pool) jobs
+    → All (λ (l : SlotLoad). pool ≡ l.pool) (loads jobs images)
 pool_all pool [] images all = All-nil (λ (l : SlotLoad). pool ≡ l.pool)
 pool_all pool (s ∷ jobs) [] all = All-nil (λ (l : SlotLoad). pool ≡ l.pool)
 pool_all pool (s ∷ jobs) (ws ∷ images) all =

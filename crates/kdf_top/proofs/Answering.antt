@@ -20,7 +20,8 @@ unfolding text
 nothing_added None = refl
 nothing_added (Some bytes) = ap Some (sym (append-nil bytes))
 
-pub given_memory : (answers : ℕ → ℕ → Type 0) (wanted : Status → Type 0) (c : Option Command) (bytes : List ℕ) (o : Outlet) → IsGiven answers wanted c bytes status.Memory None o o
+pub given_memory : (answers : ℕ → ℕ → Type 0) (wanted : Status → Type 0) (c : Option Command) (bytes : List ℕ) (o : Outlet)
+    → IsGiven answers wanted c bytes status.Memory None o o
 given_memory answers wanted c bytes o = record {
   answer = tt {0};
   wrote = nothing_added o.written;
@@ -34,7 +35,8 @@ given_memory answers wanted c bytes o = record {
 
 -- ---- a reason was to be written
 
-wrote_refusal : (c : Option Command) (told : Status) (t : List ℕ) (before after : Option (List ℕ)) → IsRefusal told → t ≡ refusal c told → Added before t after → Wrote c told before after
+wrote_refusal : (c : Option Command) (told : Status) (t : List ℕ) (before after : Option (List ℕ)) → IsRefusal told → t ≡ refusal c told → Added before t after
+    → Wrote c told before after
 wrote_refusal c status.Usage t before after is e h = subst (λ x. Added before x after) e h
 wrote_refusal c (status.Job fault line) t before after is e h = subst (λ x. Added before x after) e h
 wrote_refusal c (status.Deck slot fault place) t before after is e h = subst (λ x. Added before x after) e h
@@ -45,7 +47,8 @@ wrote_refusal c status.ReadFault t before after is e h = absurd is
 wrote_refusal c status.WriteFault t before after is e h = absurd is
 wrote_refusal c status.Memory t before after is e h = absurd is
 
-refusal_due : (answers : ℕ → ℕ → Type 0) (told : Status) (c : Option Command) (bytes t : List ℕ) → IsRefusal told → t ≡ refusal c told → IsDueAt answers told c bytes t
+refusal_due : (answers : ℕ → ℕ → Type 0) (told : Status) (c : Option Command) (bytes t : List ℕ) → IsRefusal told → t ≡ refusal c told
+    → IsDueAt answers told c bytes t
 refusal_due answers status.Usage c bytes t is e = e
 refusal_due answers (status.Job fault line) c bytes t is e = e
 refusal_due answers (status.Deck slot fault place) c bytes t is e = e
@@ -56,7 +59,8 @@ refusal_due answers status.ReadFault c bytes t is e = absurd is
 refusal_due answers status.WriteFault c bytes t is e = absurd is
 refusal_due answers status.Memory c bytes t is e = absurd is
 
-due_refusal : (answers : ℕ → ℕ → Type 0) (told : Status) (c : Option Command) (bytes t : List ℕ) → IsRefusal told → IsDueAt answers told c bytes t → t ≡ refusal c told
+due_refusal : (answers : ℕ → ℕ → Type 0) (told : Status) (c : Option Command) (bytes t : List ℕ) → IsRefusal told → IsDueAt answers told c bytes t
+    → t ≡ refusal c told
 due_refusal answers status.Usage c bytes t is e = e
 due_refusal answers (status.Job fault line) c bytes t is e = e
 due_refusal answers (status.Deck slot fault place) c bytes t is e = e
@@ -126,7 +130,8 @@ refused_memory c told o = record {
 }
 
 -- what is answered where one answer is called for is answered where it is among those that are
-pub answers_among : (wanted : Status → Type 0) (told given : Status) (read_failed rose : Type 0) → wanted told → Answers (λ x. x ≡ told) given read_failed rose → Answers wanted given read_failed rose
+pub answers_among : (wanted : Status → Type 0) (told given : Status) (read_failed rose : Type 0) → wanted told → Answers (λ x. x ≡ told) given read_failed rose
+    → Answers wanted given read_failed rose
 answers_among wanted told status.Done read_failed rose is h = subst wanted (sym h) is
 answers_among wanted told status.Usage read_failed rose is h = subst wanted (sym h) is
 answers_among wanted told (status.Job fault line) read_failed rose is h = subst wanted (sym h) is
@@ -138,7 +143,8 @@ answers_among wanted told status.WriteFault read_failed rose is h = h
 answers_among wanted told status.Memory read_failed rose is h = h
 
 -- the reason of an answer that is the only one to be called for
-pub given_refused : (answers : ℕ → ℕ → Type 0) (wanted : Status → Type 0) (told : Status) (c : Option Command) (bytes : List ℕ) (given : Status) (o n : Outlet) → IsRefusal told
+pub given_refused : (answers : ℕ → ℕ → Type 0) (wanted : Status → Type 0) (told : Status) (c : Option Command) (bytes : List ℕ) (given : Status) (o n : Outlet)
+    → IsRefusal told
     → wanted told → ((x : Status) → wanted x → x ≡ told) → IsRefused c told given o n → IsGiven answers wanted c bytes given None o n
 given_refused answers wanted told c bytes given o n is called only h =
     let fits : (due : List ℕ) → IsDue answers wanted c bytes due → length due ≤ o.room → length (refusal c told) ≤ o.room =
@@ -161,7 +167,8 @@ given_over answers c x y given kept o n e h = subst (λ z. IsGiven answers (IsCa
 
 -- ---- the text of a command, where any two answers of the service to one word are equal
 
-module _ (answers : ℕ → ℕ → Type 0) (one : (n a b : ℕ) → n < 2 ^ 48 → answers n a → answers n b → a ≡ b) (c : Command) (bytes t : List ℕ) (kept : Option Shown) (made : IsMade answers c bytes t kept) where
+module _ (answers : ℕ → ℕ → Type 0) (one : (n a b : ℕ) → n < 2 ^ 48 → answers n a → answers n b → a ≡ b) (c : Command) (bytes t : List ℕ) (kept : Option Shown)
+    (made : IsMade answers c bytes t kept) where
   -- it is the one that is due
   due : IsDue answers (IsCalled answers c bytes) (Some c) bytes t
   due = (status.Done, called_done answers c bytes made.faultless made.assembles made.trusted, (_, journal_kept answers c bytes kept made.keeps, made.text_is))

@@ -74,14 +74,16 @@ called_where answers (Asm p) bytes trusted = refl
 called_where answers (Make n) bytes trusted = refl
 called_where answers (Watch k w) bytes trusted = refl
 
-pub called_done : (answers : ℕ → ℕ → Type 0) (c : Command) (bytes : List ℕ) → IsFaultless c bytes → deck_fault (job_of c bytes).slots ≡ None → IsTrusted answers c bytes
+pub called_done : (answers : ℕ → ℕ → Type 0) (c : Command) (bytes : List ℕ) → IsFaultless c bytes → deck_fault (job_of c bytes).slots ≡ None
+    → IsTrusted answers c bytes
     → IsCalled answers c bytes status.Done
 called_done answers c bytes is assembles trusted =
     subst (λ found. IsCalledWhere answers c bytes found status.Done) (sym (done_status c bytes is assembles)) (called_where answers c bytes trusted)
 
 -- ---- the machine that is kept has the journal
 
-journal_where : (answers : ℕ → ℕ → Type 0) (keeps : Bool) (j : Job) (m : Shown) → keeps ≡ true → m.slots ≡ slots_of j → IsJournalFor answers m.slots j.events m.journal
+journal_where : (answers : ℕ → ℕ → Type 0) (keeps : Bool) (j : Job) (m : Shown) → keeps ≡ true → m.slots ≡ slots_of j
+    → IsJournalFor answers m.slots j.events m.journal
     → IsJournalWhere answers keeps j m.journal
 journal_where answers true j m is loaded journal = subst (λ slots. IsJournalFor answers slots j.events m.journal) loaded journal
 journal_where answers false j m is loaded journal = absurd cc
@@ -90,16 +92,19 @@ no_journal : (answers : ℕ → ℕ → Type 0) (keeps : Bool) (j : Job) → kee
 no_journal answers true j is = absurd cc
 no_journal answers false j is = refl
 
-pub journal_kept : (answers : ℕ → ℕ → Type 0) (c : Command) (bytes : List ℕ) (kept : Option Shown) → Keeps answers c bytes kept → IsJournalOf answers c bytes (journal_in kept)
+pub journal_kept : (answers : ℕ → ℕ → Type 0) (c : Command) (bytes : List ℕ) (kept : Option Shown) → Keeps answers c bytes kept
+    → IsJournalOf answers c bytes (journal_in kept)
 journal_kept answers c bytes None keeps = no_journal answers (keeps_machine c) (job_of c bytes) keeps
 journal_kept answers c bytes (Some m) keeps = journal_where answers (keeps_machine c) (job_of c bytes) m keeps.0 keeps.1.slots keeps.1.journal
 
 -- ---- one verdict
 
-one_judged : (answers : ℕ → ℕ → Type 0) (slots : List Slot) (events : List Event) (bytes : List ℕ) (v w : Verdict) → IsCheck answers slots events bytes v → IsCheck answers slots events bytes w → v ≡ w
+one_judged : (answers : ℕ → ℕ → Type 0) (slots : List Slot) (events : List Event) (bytes : List ℕ) (v w : Verdict) → IsCheck answers slots events bytes v
+    → IsCheck answers slots events bytes w → v ≡ w
 one_judged answers slots events bytes v w p q = by (is_text head_line (line (lines bytes) 1)) p q
   where
-    by : (b : Bool) → IsJudged b (IsVerdict answers slots events (told_lines (lines bytes)) v) v → IsJudged b (IsVerdict answers slots events (told_lines (lines bytes)) w) w → v ≡ w
+    by : (b : Bool) → IsJudged b (IsVerdict answers slots events (told_lines (lines bytes)) v) v
+        → IsJudged b (IsVerdict answers slots events (told_lines (lines bytes)) w) w → v ≡ w
     by true p q = one_verdict_lem answers slots events (told_lines (lines bytes)) v w p q
     by false p q = p ∙ sym q
 
@@ -140,7 +145,8 @@ module _ (answers : ℕ → ℕ → Type 0) (one : (n a b : ℕ) → n < 2 ^ 48 
   one_from Save bytes J d e p q = p ∙ sym q
   one_from Resume bytes J d e p q = p ∙ sym q
   one_from Check bytes J d e p q =
-      p.2 ∙ ap (λ v. text (verdict_lines v)) (one_judged answers (slots_of (front_job bytes)) (front_job bytes).events (after_job bytes) p.0 q.0 p.1 q.1) ∙ sym q.2
+      p.2 ∙ ap (λ v. text (verdict_lines v)) (one_judged answers (slots_of (front_job bytes)) (front_job bytes).events (after_job bytes) p.0 q.0 p.1 q.1)
+      ∙ sym q.2
   one_from (Alone s) bytes J d e p q = p ∙ sym q
   one_from (Asm s) bytes J d e p q = p ∙ sym q
   one_from (Make n) bytes J d e p q = p ∙ sym q

@@ -1,5 +1,6 @@
 -- The decks of a job: what its slots are loaded with, and the first that has a fault.
-use Rattle.std.proofs.Common.{◌≡◌, ℕ, zero, suc, ◌+◌, ◌<◌, ◌≤◌, List, [], ◌∷◌, ◌++◌, length, map, take, drop, get_or, Some, None, Result, Ok, Err, All, refl, sym, ap, subst, ◌∙◌, arith}
+use Rattle.std.proofs.Common.{◌≡◌, ℕ, zero, suc, ◌+◌, ◌<◌, ◌≤◌, List, [], ◌∷◌, ◌++◌, length, map, take, drop, get_or, Some, None, Result, Ok, Err, All, refl}
+use Rattle.std.proofs.Common.{sym, ap, subst, ◌∙◌, arith}
 use Rattle.std.proofs.lemmas.List.{at_drop_all, at_drop_more, get_or-map, length-map, take_more, map-append}
 use Rattle.std.proofs.lemmas.List.Elements.{All-push}
 use Rattle.kdf_usercode.specs.Faults.{Found}
@@ -72,7 +73,8 @@ fitting_images slots images have =
 pub all_decks : (j : ReadJob) → IsJob (shown_job j) → All IsDeck j.slots.items
 all_decks j well k d lt =
     let inside : k < length (map shown_slot j.slots.items) = omega (arith, length-map j.slots.items shown_slot) in
-    let at : get_or (map shown_slot j.slots.items) k (shown_slot d) ≡ shown_slot (get_or j.slots.items k d) = get_or-map shown_slot j.slots.items k d (shown_slot d) lt in
+    let at : get_or (map shown_slot j.slots.items) k (shown_slot d) ≡ shown_slot (get_or j.slots.items k d) =
+    get_or-map shown_slot j.slots.items k d (shown_slot d) lt in
     let slot = subst IsSlot at (well.slots.each k (shown_slot d) inside) in
     (slot.most, slot.deck)
 
@@ -89,7 +91,8 @@ module _ (slots : List ReadSlot) (i : ℕ) (d slot : ReadSlot) (lt : i < length 
   take_one : take (i + 1) slots ≡ take i slots ++ slot ∷ []
   take_one = take_more slots i d lt ∙ ap (λ (s : ReadSlot). take i slots ++ s ∷ []) is
 
-  pub pictures-on : (images : List Image) → map pictured images ≡ map picture_due (take i slots) → map pictured (images ++ image ∷ []) ≡ map picture_due (take (i + 1) slots)
+  pub pictures-on : (images : List Image) → map pictured images ≡ map picture_due (take i slots)
+      → map pictured (images ++ image ∷ []) ≡ map picture_due (take (i + 1) slots)
   pictures-on images e =
       map-append pictured images (image ∷ []) ∙ ap (λ (ps : List (Result Picture Found)). ps ++ pictured image ∷ []) e
       ∙ ap (λ (p : Result Picture Found). map picture_due (take i slots) ++ p ∷ []) (sym made)

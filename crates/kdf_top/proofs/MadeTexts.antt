@@ -27,8 +27,10 @@ with_both (Ok made) t m due P is kept text f = f made (subst (λ x. IfOk x (λ (
 with_both (Err e) t m due P is kept text f = tt {0}
 
 -- a text and a machine
-module _ (answers : ℕ → ℕ → Type 0) (c : Command) (bytes : List ℕ) (faultless : IsFaultless c bytes) (assembles : deck_fault (job_of c bytes).slots ≡ None) (trusted : IsTrusted answers c bytes)
+module _ (answers : ℕ → ℕ → Type 0) (c : Command) (bytes : List ℕ) (faultless : IsFaultless c bytes) (assembles : deck_fault (job_of c bytes).slots ≡ None)
+    (trusted : IsTrusted answers c bytes)
     (t : List ℕ) (kept : Option Shown) where
-  pub made_with : (m : Shown) → kept ≡ Some m → keeps_machine c ≡ true → IsMachineOf answers (job_of c bytes) m → IsTextFrom answers c bytes m.journal t → IsMade answers c bytes t kept
+  pub made_with : (m : Shown) → kept ≡ Some m → keeps_machine c ≡ true → IsMachineOf answers (job_of c bytes) m → IsTextFrom answers c bytes m.journal t
+      → IsMade answers c bytes t kept
   made_with m is runs machine text = subst (IsMade answers c bytes t) (sym is)
       (record { faultless = faultless; assembles = assembles; trusted = trusted; keeps = (runs, machine); text_is = text })

@@ -24,7 +24,8 @@ use Rattle.kdf_text.specs.Text.{text}
 use Rattle.kdf_watch.specs.Stops.{stops_of}
 use Rattle.kdf_top.proofs.Sealing.{sealed_seen}
 
-module _ (j : Job) (m : Shown) (are : AreSlots j.slots) (fits : HaveImages j.slots (images_of j.slots)) (loaded : m.slots ≡ slots_of j) (seen : ShowsSeen m) where
+module _ (j : Job) (m : Shown) (are : AreSlots j.slots) (fits : HaveImages j.slots (images_of j.slots)) (loaded : m.slots ≡ slots_of j)
+    (seen : ShowsSeen m) where
   -- what is loaded are slots
   can_run : director.AreSlots m.slots
   can_run = subst director.AreSlots (sym loaded) (are_slots _ (are_loads j.slots (images_of j.slots) are fits))

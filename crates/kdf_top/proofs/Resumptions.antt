@@ -1,5 +1,6 @@
 -- What comes of a snapshot that was read, from what its machine has run.
-use Rattle.std.proofs.Common.{◌≡◌, ℕ, ◌+◌, ◌-◌, ◌≤◌, inl, inr, List, length, length-drop, length-take, take, drop, None, Ok, refl, sym, ap, ap₂, ◌∙◌, subst, arith}
+use Rattle.std.proofs.Common.{◌≡◌, ℕ, ◌+◌, ◌-◌, ◌≤◌, inl, inr, List, length, length-drop, length-take, take, drop, None, Ok, refl, sym, ap, ap₂, ◌∙◌, subst}
+use Rattle.std.proofs.Common.{arith}
 use Rattle.std.proofs.Math.Seq.{take-append_seam}
 use Rattle.kdf_text.specs.Lines.{lines}
 use Rattle.kdf_journal.specs.declared.entry.Entry.{Entry}
@@ -23,7 +24,8 @@ use Rattle.kdf_top.specs.Answers.{IsCalled, IsCalledWhere}
 use Rattle.kdf_top.specs.Deck.{deck_fault}
 use Rattle.kdf_top.specs.Loaded.{HasImages, slots_of}
 use Rattle.kdf_top.specs.Resumed.{IsRead, IsSaved}
-use Rattle.kdf_top.specs.Snapshots.{IsCompared, IsComparedFor, IsOf, IsSnapshot, further, parts, parts_in, parts_or_none, resumed_job, resumed_with, sealed_lines, sealed_text}
+use Rattle.kdf_top.specs.Snapshots.{IsCompared, IsComparedFor, IsOf, IsSnapshot, further, parts, parts_in, parts_or_none, resumed_job, resumed_with}
+use Rattle.kdf_top.specs.Snapshots.{sealed_lines, sealed_text}
 use Rattle.kdf_command.specs.declared.command.Command.TheVariants.{Resume}
 use Rattle.kdf_top.specs.declared.reason.MakeError.{MakeError}
 use Rattle.kdf_top.specs.declared.reason.MakeError.TheVariants.{Refused, Memory}
@@ -33,7 +35,8 @@ use Rattle.kdf_top.proofs.Called.{done_status}
 use Rattle.kdf_top.proofs.Lines.{few_lines}
 
 -- where the lines of a text are split, its parts are these
-parts_read : (bytes : List ℕ) (end line : ℕ) (p : Parts) → end ≡ front_length bytes → line ≡ length (lines (take end bytes)) + 1 → parts_of line (drop end bytes) ≡ Ok p → parts_in bytes ≡ Ok p
+parts_read : (bytes : List ℕ) (end line : ℕ) (p : Parts) → end ≡ front_length bytes → line ≡ length (lines (take end bytes)) + 1
+    → parts_of line (drop end bytes) ≡ Ok p → parts_in bytes ≡ Ok p
 parts_read bytes end line p is_end is_line split =
     sym (ap₂ parts_of (is_line ∙ ap (λ n. length (lines (take n bytes)) + 1) is_end) (ap (λ n. drop n bytes) is_end)) ∙ split
 
@@ -58,20 +61,35 @@ module _ (bytes : List ℕ) (end line : ℕ) (p : SplitParts) (is_end : end ≡ 
       → IsInside line (length (drop end bytes)) p → more_fault p.more_line old.events (drop p.more_from (drop end bytes)) ≡ None
       → shown_job s.job ≡ joined old (more_events (drop p.more_from (drop end bytes))) → s.first ≡ length old.events → IsJob (shown_job s.job)
       → HasImages (shown_job s.job).slots s.images.items → deck_fault (shown_job s.job).slots ≡ None
-      → s.seal_line ≡ s.line + length p.entries.items + 2 → s.sealed.items ≡ take (p.more_from - p.seal_from) (drop p.seal_from (drop end bytes)) → IsRead bytes s
+      → s.seal_line ≡ s.line + length p.entries.items + 2 → s.sealed.items ≡ take (p.more_from - p.seal_from) (drop p.seal_from (drop end bytes))
+      → IsRead bytes s
   is_read s old within end_within line_told front is_old inside more is_joined first well images assembles is_seal is_sealed =
       let after : drop p.more_from (drop end bytes) ≡ further bytes (shown_parts p) = ap (λ n. drop p.more_from (drop n bytes)) is_end in
       let no_more : more_fault p.more_line (front_job bytes).events (further bytes (shown_parts p)) ≡ None =
-      subst (λ (x : List ℕ). more_fault p.more_line (front_job bytes).events x ≡ None) after (subst (λ (j : Job). more_fault p.more_line j.events (drop p.more_from (drop end bytes)) ≡ None) is_old more) in
+      subst (λ (x : List ℕ). more_fault p.more_line (front_job bytes).events x ≡ None) after
+      (subst (λ (j : Job). more_fault p.more_line j.events (drop p.more_from (drop end bytes)) ≡ None) is_old more) in
       let told : shown_job s.job ≡ resumed_job bytes =
       is_joined ∙ ap₂ (λ (j : Job) (x : List ℕ). joined j (more_events x)) is_old after ∙ ap (resumed_with bytes) are_parts in
       let many : length p.entries.items ≡ length (parts bytes).entries = ap length entries_read in
       let few : length p.entries.items ≤ TEXT_LIMIT = omega (arith, within, inside.entries, inside.seal, inside.more, inside.end, length-drop end bytes) in
       let most : s.line ≤ TEXT_LIMIT + 1 = omega (arith, within, line_told, is_line, few_lines (take end bytes), length-take end bytes) in
       let sealed_size : length s.sealed.items ≤ TEXT_LIMIT =
-      omega (arith, within, ap length is_sealed, length-take (p.more_from - p.seal_from) (drop p.seal_from (drop end bytes)), inside.more, inside.end, length-drop end bytes) in
+      omega (
+        arith,
+        within,
+        ap length is_sealed,
+        length-take (p.more_from - p.seal_from) (drop p.seal_from (drop end bytes)),
+        inside.more,
+        inside.end,
+        length-drop end bytes,
+      ) in
       record {
-        snapshot = record { front = front; split = has_parts ∙ ap Ok are_parts; further = subst (λ (q : Parts). more_fault q.more_line (front_job bytes).events (further bytes q) ≡ None) are_parts no_more };
+        snapshot = record {
+          front = front;
+          split = has_parts ∙ ap Ok are_parts;
+          further =
+              subst (λ (q : Parts). more_fault q.more_line (front_job bytes).events (further bytes q) ≡ None) are_parts no_more;
+        };
         few = omega (arith, many, few);
         line = line_told ∙ is_line ∙ ap (λ n. length (lines (take n bytes)) + 1) is_end;
         line_most = most;
@@ -83,7 +101,8 @@ module _ (bytes : List ℕ) (end line : ℕ) (p : SplitParts) (is_end : end ≡ 
       }
 
 -- why a run doesn't go on, from why the snapshot isn't that of its journal
-pub reason_for : (answers : ℕ → ℕ → Type 0) (bytes : List ℕ) (J : List Entry) (e : MakeError) → IsJournalFor answers (slots_of (front_job bytes)) (front_job bytes).events J
+pub reason_for : (answers : ℕ → ℕ → Type 0) (bytes : List ℕ) (J : List Entry) (e : MakeError)
+    → IsJournalFor answers (slots_of (front_job bytes)) (front_job bytes).events J
     → IsReason (IsCompared bytes J) e → IsReason (IsComparedFor answers bytes) e
 reason_for answers bytes J (Refused called) journal reason = (reason.0, (J, journal, reason.1))
 reason_for answers bytes J Memory journal reason = tt {0}
@@ -108,7 +127,8 @@ module _ (bytes : List ℕ) (s : Snapshot) (is : IsRead bytes s) where
       (subst (λ (xs : List Slot). IsJournalFor answers xs (take s.first (shown_job s.job).events) J) (loaded ∙ ap slots_of is.loaded.told) journal)
 
   -- the entries differ from the journal
-  pub other_journal : (answers : ℕ → ℕ → Type 0) (slots : List Slot) (entries J : List Entry) (place line : ℕ) → entries ≡ (parts bytes).entries → slots ≡ slots_of (shown_job s.job)
+  pub other_journal : (answers : ℕ → ℕ → Type 0) (slots : List Slot) (entries J : List Entry) (place line : ℕ) → entries ≡ (parts bytes).entries
+      → slots ≡ slots_of (shown_job s.job)
       → IsJournalFor answers slots (take s.first (shown_job s.job).events) J → IsDifference entries J place → line ≡ s.line + 1 + place
       → IsComparedFor answers bytes (status.Snapshot JournalDiffers line)
   other_journal answers slots entries J place line are loaded journal differs is_line = (
@@ -131,7 +151,8 @@ module _ (bytes : List ℕ) (s : Snapshot) (is : IsRead bytes s) where
     pub same_seal : lines these ≡ lines those → IsOf bytes m.journal
     same_seal same = record { entries = sym entries; sealed = sym (ap lines is_these ∙ is.sealed) ∙ same ∙ ap lines is_those }
 
-    pub other_seal : (place line : ℕ) → IsDifference (lines these) (lines those) place → line ≡ s.seal_line + place → IsCompared bytes m.journal (status.Snapshot SealDiffers line)
+    pub other_seal : (place line : ℕ) → IsDifference (lines these) (lines those) place → line ≡ s.seal_line + place
+        → IsCompared bytes m.journal (status.Snapshot SealDiffers line)
     other_seal place line differs is_line =
         inr (inr (
           line,

@@ -1,5 +1,6 @@
 -- How an answer to a command comes of an answer over its text.
-use Rattle.std.proofs.Common.{◌≡◌, ◌≢◌, ◌⊎◌, inl, inr, ⊎_elim, ℕ, ◌^◌, Result, Ok, Err, ◌+◌, ◌<◌, ◌≤◌, List, [], ◌++◌, length, length-append, true, false, Option, Some, None, IfSome, is_some, refl, sym, ap, subst, arith, cond}
+use Rattle.std.proofs.Common.{◌≡◌, ◌≢◌, ◌⊎◌, inl, inr, ⊎_elim, ℕ, ◌^◌, Result, Ok, Err, ◌+◌, ◌<◌, ◌≤◌, List, [], ◌++◌, length, length-append, true, false}
+use Rattle.std.proofs.Common.{Option, Some, None, IfSome, is_some, refl, sym, ap, subst, arith, cond}
 use Rattle.std.proofs.lemmas.Bool.{lt-ltb, le-ltb}
 use Rattle.kdf_io.specs.Outside.{HasRisen, Advances, NothingLeft}
 use Rattle.kdf_io.specs.Reading.{TakesAtMost, TookBefore}
@@ -21,7 +22,8 @@ use Rattle.kdf_command.specs.declared.command.Input.TheVariants.{Read, Made}
 use Rattle.kdf_top.specs.declared.status.Status.{Status}
 use Rattle.kdf_top.specs.declared.status.Status.TheVariants as status
 use Rattle.kdf_top.specs.Answered.{Inlet, Outlet, IsGiven, IsRun, Takes, TakesBy}
-use Rattle.kdf_top.specs.Answers.{Answers, IsCalled, IsCalledBy, IsCalledWhere, IsFaultless, IsTrusted, called_by, job_text, or_decks, reads_by, status_of, status_of_lines, text_by}
+use Rattle.kdf_top.specs.Answers.{Answers, IsCalled, IsCalledBy, IsCalledWhere, IsFaultless, IsTrusted, called_by, job_text, or_decks, reads_by, status_of}
+use Rattle.kdf_top.specs.Answers.{status_of_lines, text_by}
 use Rattle.kdf_command.specs.Commands.{input_of, is_read, is_too_long, limit_of, text_in}
 use Rattle.kdf_top.specs.Deck.{deck_fault}
 use Rattle.kdf_top.specs.Due.{job_of}
@@ -32,7 +34,8 @@ use Rattle.kdf_top.proofs.Called.{called_done, one_called}
 -- ---- answers
 
 -- where an answer is that of a source that didn't fail, it is that of one that may have
-pub answers_weaker : (wanted : Status → Type 0) (given : Status) (read_failed rose : Type 0) → Answers wanted given ⊥ rose → Answers wanted given read_failed rose
+pub answers_weaker : (wanted : Status → Type 0) (given : Status) (read_failed rose : Type 0) → Answers wanted given ⊥ rose
+    → Answers wanted given read_failed rose
 answers_weaker wanted status.Done read_failed rose h = h
 answers_weaker wanted status.Usage read_failed rose h = h
 answers_weaker wanted (status.Job fault line) read_failed rose h = h
@@ -105,7 +108,8 @@ compared_no_usage answers bytes (J, journal, inl p) = let e = p.0 in cc
 compared_no_usage answers bytes (J, journal, inr (inl p)) = let e = p.1 in cc
 compared_no_usage answers bytes (J, journal, inr (inr p)) = let e = p.1 in cc
 
-where_no_usage : (answers : ℕ → ℕ → Type 0) (c : Command) (bytes : List ℕ) (found : Status) → found ≢ status.Usage → ¬ (IsCalledWhere answers c bytes found status.Usage)
+where_no_usage : (answers : ℕ → ℕ → Type 0) (c : Command) (bytes : List ℕ) (found : Status) → found ≢ status.Usage
+    → ¬ (IsCalledWhere answers c bytes found status.Usage)
 where_no_usage answers Resume bytes status.Done other called = compared_no_usage answers bytes called
 where_no_usage answers Resume bytes status.Usage other called = other refl
 where_no_usage answers Resume bytes (status.Job fault line) other called = other (sym called)
@@ -124,7 +128,8 @@ where_no_usage answers (Make n) bytes found other called = other (sym called)
 where_no_usage answers (Watch k w) bytes found other called = other (sym called)
 
 called_no_usage : (answers : ℕ → ℕ → Type 0) (c : Command) (bytes : List ℕ) → ¬ (IsCalled answers c bytes status.Usage)
-called_no_usage answers c bytes = where_no_usage answers c bytes (status_of c bytes) (decks_no_usage (status_of_lines c bytes) (deck_fault (job_of c bytes).slots) (lines_no_usage c bytes))
+called_no_usage answers c bytes = where_no_usage answers c bytes (status_of c bytes)
+    (decks_no_usage (status_of_lines c bytes) (deck_fault (job_of c bytes).slots) (lines_no_usage c bytes))
 
 -- more bytes than a command may read call for Large alone
 too_long_for : (c : Command) (limit : ℕ) (bytes : List ℕ) → input_of c ≡ Read limit → limit < length bytes → called_by (Some c) bytes ≡ status.Large
@@ -150,7 +155,8 @@ large_only answers (Asm p) bytes x called = called
 large_only answers (Make n) bytes x called = called
 large_only answers (Watch k w) bytes x called = called
 
-short_enough : (c : Command) (limit : ℕ) (bytes : List ℕ) → input_of c ≡ Read limit → length bytes ≤ limit → called_by (Some c) bytes ≡ status_of c (job_text c bytes)
+short_enough : (c : Command) (limit : ℕ) (bytes : List ℕ) → input_of c ≡ Read limit → length bytes ≤ limit
+    → called_by (Some c) bytes ≡ status_of c (job_text c bytes)
 short_enough c limit bytes e short = rw (e, le-ltb limit (length bytes) short) refl
 
 read_text : (c : Command) (limit : ℕ) (bytes : List ℕ) → input_of c ≡ Read limit → text_by (Some c) bytes ≡ bytes
@@ -191,14 +197,16 @@ makes_it c n e = ap is_read e
 
 -- ---- an answer to a command or to other words: `one` over the bytes that were read, and `all` over those that are told
 
-run_by : (answers : ℕ → ℕ → Type 0) (c : Option Command) (wanted : Status → Type 0) (read : List ℕ) (given : Status) (kept : Option Shown) (source source' : Inlet) (o n : Outlet)
+run_by : (answers : ℕ → ℕ → Type 0) (c : Option Command) (wanted : Status → Type 0) (read : List ℕ) (given : Status) (kept : Option Shown)
+    (source source' : Inlet) (o n : Outlet)
     → (is_some c ≡ true → ¬ (wanted status.Usage)) → IsGiven answers wanted c (text_by c read) given kept o n
     → (reads_by c ≡ false → IsGiven answers (IsCalledBy answers c []) c (text_by c []) given kept o n)
     → IfSome source.left (λ bytes. IsGiven answers (IsCalledBy answers c bytes) c (text_by c bytes) given kept o n)
     → (given ≡ status.Done → reads_by c ≡ true → NothingLeft source'.left) → (given ≡ status.Done → Advances source.left read source'.left)
     → Takes c source.left source'.left → source.faults ≤ source'.faults → IsRun answers c given kept source source' o n
 run_by answers c wanted read given kept source source' o n other one unread all ended took taken falls = record {
-  answer = map_some _ _ source.left (λ bytes h. answers_weaker (IsCalledBy answers c bytes) given (HasRisen source.faults source'.faults) (HasRisen o.faults n.faults) h.answer) all;
+  answer = map_some _ _ source.left (λ bytes h. answers_weaker (IsCalledBy answers c bytes) given (HasRisen source.faults source'.faults)
+      (HasRisen o.faults n.faults) h.answer) all;
   unread = λ none. (unread none).answer;
   command = λ is. no_usage wanted given _ (other is) one.answer;
   read_fault = λ e. absurd (no_read_fault wanted given _ one.answer e);
@@ -255,18 +263,22 @@ run_made answers c n given kept source o new is one =
     subst (λ t. IsGiven answers (IsCalled answers c t) (Some c) t given kept o new) (sym (ap (λ i. text_in i []) is)) one in
     run_by answers (Some c) (IsCalled answers c (job_text c [])) [] given kept source source o new
     (λ _. called_no_usage answers c (job_text c [])) here (λ _. over [])
-    (all_some _ source.left over) (λ d reads. absurd (let no = makes_it c n is in cc)) (λ d. nothing_taken source.left) (untouched (Some c) source.left) (omega arith)
+    (all_some _ source.left over) (λ d reads. absurd (let no = makes_it c n is in cc)) (λ d. nothing_taken source.left) (untouched (Some c) source.left)
+    (omega arith)
 
 -- there was no memory to tell whether there is a command
 pub run_forgotten : (answers : ℕ → ℕ → Type 0) (c : Option Command) (source : Inlet) (o : Outlet) → IsRun answers c status.Memory None source source o o
 run_forgotten answers c source o =
-    run_by answers c (λ x. x ≡ status.Large) [] status.Memory None source source o o (λ is e. absurd (cc)) (given_memory answers (λ x. x ≡ status.Large) c (text_by c []) o)
-    (λ _. given_memory answers (IsCalledBy answers c []) c (text_by c []) o) (all_some _ source.left (λ bytes. given_memory answers (IsCalledBy answers c bytes) c (text_by c bytes) o))
+    run_by answers c (λ x. x ≡ status.Large) [] status.Memory None source source o o (λ is e. absurd (cc))
+    (given_memory answers (λ x. x ≡ status.Large) c (text_by c []) o)
+    (λ _. given_memory answers (IsCalledBy answers c []) c (text_by c []) o)
+    (all_some _ source.left (λ bytes. given_memory answers (IsCalledBy answers c bytes) c (text_by c bytes) o))
     (λ e. absurd (cc)) (λ e. absurd (cc)) (untouched c source.left) (omega arith)
 
 -- ---- a command that reads its text, of at most so many bytes
 
-module _ (answers : ℕ → ℕ → Type 0) (c : Command) (limit : ℕ) (is : input_of c ≡ Read limit) (source source' : Inlet) (most : TakesAtMost (limit + 1) source.left source'.left) (falls : source.faults ≤ source'.faults) where
+module _ (answers : ℕ → ℕ → Type 0) (c : Command) (limit : ℕ) (is : input_of c ≡ Read limit) (source source' : Inlet)
+    (most : TakesAtMost (limit + 1) source.left source'.left) (falls : source.faults ≤ source'.faults) where
   taken : TakesBy (input_of c) source.left source'.left
   taken = rw is most
 
@@ -284,17 +296,22 @@ module _ (answers : ℕ → ℕ → Type 0) (c : Command) (limit : ℕ) (is : in
       subst (λ t. IsGiven answers (IsCalled answers c t) (Some c) t given kept o n) (sym (read_text c limit read is)) one in
       run_by answers (Some c) (IsCalled answers c (job_text c read)) read given kept source source' o n
       (λ _. called_no_usage answers c (job_text c read)) here (λ none. absurd (reads none))
-      (map_some _ _ source.left (λ bytes e. subst (λ x. IsGiven answers (IsCalledBy answers (Some c) x) (Some c) (text_by (Some c) x) given kept o n) e over) whole)
+      (map_some _ _ source.left (λ bytes e. subst (λ x. IsGiven answers (IsCalledBy answers (Some c) x) (Some c) (text_by (Some c) x) given kept o n) e over)
+      whole)
       (λ d _. ended) (λ d. took) taken falls
 
   -- more bytes came than may be read
   pub run_large : (given : Status) (kept : Option Shown) (o n : Outlet) → IfSome source.left (λ bytes. limit < length bytes) → given ≢ status.Done
-      → ((wanted : Status → Type 0) (bytes : List ℕ) → wanted status.Large → ((x : Status) → wanted x → x ≡ status.Large) → IsGiven answers wanted (Some c) bytes given kept o n)
+      → ((wanted : Status → Type 0) (bytes : List ℕ) → wanted status.Large → ((x : Status) → wanted x → x ≡ status.Large)
+      → IsGiven answers wanted (Some c) bytes given kept o n)
       → IsRun answers (Some c) given kept source source' o n
   run_large given kept o n long undone given_large =
-      let over : (bytes : List ℕ) → limit < length bytes → IsGiven answers (IsCalledBy answers (Some c) bytes) (Some c) (text_by (Some c) bytes) given kept o n =
-      λ bytes h. subst (λ found. IsGiven answers (IsCalledWhere answers c (job_text c bytes) found) (Some c) (text_by (Some c) bytes) given kept o n) (sym (too_long_for c limit bytes is h))
-      (given_large (IsCalledWhere answers c (job_text c bytes) status.Large) (text_by (Some c) bytes) (large_called answers c (job_text c bytes)) (large_only answers c (job_text c bytes))) in
+      let over : (bytes : List ℕ) → limit < length bytes → IsGiven answers (IsCalledBy answers (Some c) bytes) (Some c) (text_by (Some c) bytes) given kept o
+      n =
+      λ bytes h. subst (λ found. IsGiven answers (IsCalledWhere answers c (job_text c bytes) found) (Some c) (text_by (Some c) bytes) given kept o n)
+      (sym (too_long_for c limit bytes is h))
+      (given_large (IsCalledWhere answers c (job_text c bytes) status.Large) (text_by (Some c) bytes) (large_called answers c (job_text c bytes))
+      (large_only answers c (job_text c bytes))) in
       run_by answers (Some c) (λ x. x ≡ status.Large) [] given kept source source' o n (λ _ e. absurd (cc))
       (given_large (λ x. x ≡ status.Large) (text_by (Some c) []) refl (λ x e. e)) (λ none. absurd (reads none))
       (map_some _ _ source.left over long)
@@ -303,7 +320,8 @@ module _ (answers : ℕ → ℕ → Type 0) (c : Command) (limit : ℕ) (is : in
   -- there was no memory for the bytes
   pub run_no_memory : (o : Outlet) → IsRun answers (Some c) status.Memory None source source' o o
   run_no_memory o =
-      run_by answers (Some c) (λ x. x ≡ status.Large) [] status.Memory None source source' o o (λ _ e. absurd (cc)) (given_memory answers (λ x. x ≡ status.Large) (Some c) _ o) (λ none. absurd (reads none))
+      run_by answers (Some c) (λ x. x ≡ status.Large) [] status.Memory None source source' o o (λ _ e. absurd (cc))
+      (given_memory answers (λ x. x ≡ status.Large) (Some c) _ o) (λ none. absurd (reads none))
       (all_some _ source.left (λ bytes. given_memory answers (IsCalledBy answers (Some c) bytes) (Some c) (text_by (Some c) bytes) o))
       (λ e. absurd (cc)) (λ e. absurd (cc)) taken falls
 
@@ -339,7 +357,8 @@ large_told limit (Some all) (Some rest) t =
 -- ---- where nothing fails
 
 -- the answer is one that is called for, or there was no memory
-only_memory : (wanted : Status → Type 0) (given : Status) (read_failed rose : Type 0) → Answers wanted given read_failed rose → ¬ read_failed → ¬ rose → wanted given ⊎ (given ≡ status.Memory)
+only_memory : (wanted : Status → Type 0) (given : Status) (read_failed rose : Type 0) → Answers wanted given read_failed rose → ¬ read_failed → ¬ rose
+    → wanted given ⊎ (given ≡ status.Memory)
 only_memory wanted status.Done read_failed rose h f g = inl h
 only_memory wanted status.Usage read_failed rose h f g = inl h
 only_memory wanted (status.Job fault line) read_failed rose h f g = inl h
@@ -363,12 +382,14 @@ module _ (answers : ℕ → ℕ → Type 0) (one : (n a b : ℕ) → n < 2 ^ 48 
       ⊎_elim
       (λ (called : IsCalledBy answers (Some c) bytes given).
       inl (one_called answers one c (job_text c bytes) (status_of c (job_text c bytes)) given status.Done
-      (subst (λ found. IsCalledWhere answers c (job_text c bytes) found given) (called_as c bytes short) called) (called_done answers c (job_text c bytes) faultless assembles trusted)))
+      (subst (λ found. IsCalledWhere answers c (job_text c bytes) found given) (called_as c bytes short) called)
+      (called_done answers c (job_text c bytes) faultless assembles trusted)))
       (λ (none : given ≡ status.Memory). inr none)
       (only_memory (IsCalledBy answers (Some c) bytes) given read_failed rose h f g)) all
 
 -- other words are told how to use the program
-pub usage_or_memory : (answers : ℕ → ℕ → Type 0) (c : Option Command) (given : Status) (rose : Type 0) → is_some c ≡ false → (reads_by c ≡ false → Answers (IsCalledBy answers c []) given ⊥ rose) → ¬ rose
+pub usage_or_memory : (answers : ℕ → ℕ → Type 0) (c : Option Command) (given : Status) (rose : Type 0) → is_some c ≡ false
+    → (reads_by c ≡ false → Answers (IsCalledBy answers c []) given ⊥ rose) → ¬ rose
     → (given ≡ status.Usage) ⊎ (given ≡ status.Memory)
 usage_or_memory answers None given rose none all g = only_memory (λ x. x ≡ status.Usage) given ⊥ rose (all refl) (λ h. h) g
 usage_or_memory answers (Some c) given rose none all g = absurd (cc)

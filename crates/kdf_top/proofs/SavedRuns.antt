@@ -1,5 +1,6 @@
 -- A run that is saved and resumed is the whole run.
-use Rattle.std.proofs.Common.{◌≡◌, ℕ, zero, suc, ◌+◌, ◌<◌, ◌≤◌, ◌^◌, inl, true, false, cond, ltb, List, [], ◌∷◌, ◌++◌, length, map, Option, Some, None, codes, refl, sym, ap, ◌∙◌, subst, arith, ⊎_elim, All}
+use Rattle.std.proofs.Common.{◌≡◌, ℕ, zero, suc, ◌+◌, ◌<◌, ◌≤◌, ◌^◌, inl, true, false, cond, ltb, List, [], ◌∷◌, ◌++◌, length, map, Option, Some, None, codes}
+use Rattle.std.proofs.Common.{refl, sym, ap, ◌∙◌, subst, arith, ⊎_elim, All}
 use Rattle.std.proofs.lemmas.Bool.{cases_Bool, ltb-true}
 use Rattle.kdf_journal.specs.declared.entry.Entry.{Entry}
 use Rattle.kdf_journal.specs.Printed.{IsEntry}
@@ -66,10 +67,12 @@ same_report j k J same = ap (λ (slots : List SlotJob). report_of (record { slot
 same_loaded : (j k : Job) → j.slots ≡ k.slots → slots_of j ≡ slots_of k
 same_loaded j k same = ap (λ (slots : List SlotJob). loading.slots_of slots (images_of slots)) same
 
-same_journal : (answers : ℕ → ℕ → Type 0) (slots : List Slot) (es fs : List Event) (J : List Entry) → calls_made es ≡ calls_made fs → IsJournalFor answers slots es J → IsJournalFor answers slots fs J
+same_journal : (answers : ℕ → ℕ → Type 0) (slots : List Slot) (es fs : List Event) (J : List Entry) → calls_made es ≡ calls_made fs
+    → IsJournalFor answers slots es J → IsJournalFor answers slots fs J
 same_journal answers slots es fs J same j = record { legal = j.legal; truly = j.truly; whole = subst (λ (cs : List Call). IsWhole slots cs J) same j.whole }
 
-same_machine : (answers : ℕ → ℕ → Type 0) (j k : Job) (m : Shown) → j.slots ≡ k.slots → calls_made j.events ≡ calls_made k.events → IsMachineOf answers j m → IsMachineOf answers k m
+same_machine : (answers : ℕ → ℕ → Type 0) (j k : Job) (m : Shown) → j.slots ≡ k.slots → calls_made j.events ≡ calls_made k.events → IsMachineOf answers j m
+    → IsMachineOf answers k m
 same_machine answers j k m slots calls is = record {
   slots = is.slots ∙ same_loaded j k slots;
   journal = same_journal answers m.slots j.events k.events m.journal calls is.journal;
@@ -78,12 +81,14 @@ same_machine answers j k m slots calls is = record {
 }
 
 -- a machine of the one is kept where that of the other is
-run_kept : (answers : ℕ → ℕ → Type 0) (whole text : List ℕ) (kept : Option Shown) → (job whole).slots ≡ (resumed_job text).slots → calls_made (job whole).events ≡ calls_made (resumed_job text).events
+run_kept : (answers : ℕ → ℕ → Type 0) (whole text : List ℕ) (kept : Option Shown) → (job whole).slots ≡ (resumed_job text).slots
+    → calls_made (job whole).events ≡ calls_made (resumed_job text).events
     → Keeps answers Run whole kept → Keeps answers Resume text kept
 run_kept answers whole text None slots calls keeps = absurd cc
 run_kept answers whole text (Some m) slots calls keeps = (refl, same_machine answers (job whole) (resumed_job text) m slots calls keeps.1)
 
-resume_kept : (answers : ℕ → ℕ → Type 0) (whole text : List ℕ) (kept : Option Shown) → (job whole).slots ≡ (resumed_job text).slots → calls_made (job whole).events ≡ calls_made (resumed_job text).events
+resume_kept : (answers : ℕ → ℕ → Type 0) (whole text : List ℕ) (kept : Option Shown) → (job whole).slots ≡ (resumed_job text).slots
+    → calls_made (job whole).events ≡ calls_made (resumed_job text).events
     → Keeps answers Resume text kept → Keeps answers Run whole kept
 resume_kept answers whole text None slots calls keeps = absurd cc
 resume_kept answers whole text (Some m) slots calls keeps = (refl, same_machine answers (resumed_job text) (job whole) m (sym slots) (sym calls) keeps.1)
@@ -94,7 +99,8 @@ short limit n within =
 
 -- ---- what is saved and goes on
 
-module _ (answers : ℕ → ℕ → Type 0) (are_words : (n a : ℕ) → n < 2 ^ 48 → answers n a → a < 2 ^ 48) (one : (n a b : ℕ) → n < 2 ^ 48 → answers n a → answers n b → a ≡ b)
+module _ (answers : ℕ → ℕ → Type 0) (are_words : (n a : ℕ) → n < 2 ^ 48 → answers n a → a < 2 ^ 48) (one : (n a b : ℕ) → n < 2 ^ 48 → answers n a → answers n b
+    → a ≡ b)
     (bytes saved more : List ℕ) (kept : Option Shown) (made : IsMade answers Save bytes saved kept) (goes_on : IsFurther (job bytes) more) where
   abbrev J : List Entry
   J = journal_in kept
@@ -121,8 +127,11 @@ module _ (answers : ℕ → ℕ → Type 0) (are_words : (n a : ℕ) → n < 2 ^
   assembles_again = ap (λ (j : Job). deck_fault j.slots) told_again ∙ made.assembles
 
   trusted_again : IsComparedFor answers again status.Done
-  trusted_again =
-      (J, subst (λ (j : Job). IsJournalFor answers (slots_of j) j.events J) (sym front_told) its_journal, inl (refl, of_again bytes more J made.faultless entries goes_on))
+  trusted_again = (
+    J,
+    subst (λ (j : Job). IsJournalFor answers (slots_of j) j.events J) (sym front_told) its_journal,
+    inl (refl, of_again bytes more J made.faultless entries goes_on),
+  )
 
   resumed_again : IsResumed answers (joined (job bytes) (more_events more)) again
   resumed_again =
@@ -153,7 +162,8 @@ module _ (answers : ℕ → ℕ → Type 0) (are_words : (n a : ℕ) → n < 2 ^
     pub only_for : (called : Status) → IsCalledFor answers (codes "resume" ∷ []) (saved ++ more) called → called ≡ status.Done
     only_for called is =
         resumed.only called
-        (subst (λ found. IsCalledWhere answers Resume (saved ++ more) found called) called_as (subst (λ c. IsCalledBy answers c (saved ++ more) called) resume_is.none is))
+        (subst (λ found. IsCalledWhere answers Resume (saved ++ more) found called) called_as
+        (subst (λ c. IsCalledBy answers c (saved ++ more) called) resume_is.none is))
 
   module _ (whole : List ℕ) (is : IsWholeRun (job bytes) more whole) where
     same_slots : (job whole).slots ≡ (resumed_job (saved ++ more)).slots
@@ -174,7 +184,8 @@ module _ (answers : ℕ → ℕ → Type 0) (are_words : (n a : ℕ) → n < 2 ^
       text_is = run.text_is ∙ same_report (job whole) (resumed_job (saved ++ more)) (journal_in machine) same_slots;
     }
 
-    pub from_resume : (report : List ℕ) (machine : Option Shown) → IsMade answers Resume (saved ++ more) report machine → IsMade answers Run whole report machine
+    pub from_resume : (report : List ℕ) (machine : Option Shown) → IsMade answers Resume (saved ++ more) report machine
+        → IsMade answers Run whole report machine
     from_resume report machine resume = record {
       faultless = is.faultless;
       assembles = whole_assembles;
@@ -183,11 +194,13 @@ module _ (answers : ℕ → ℕ → Type 0) (are_words : (n a : ℕ) → n < 2 ^
       text_is = resume.text_is ∙ same_report (resumed_job (saved ++ more)) (job whole) (journal_in machine) (sym same_slots);
     }
 
-    pub one_report : (report other : List ℕ) (machine second : Option Shown) → IsMade answers Run whole report machine → IsMade answers Resume (saved ++ more) other second → other ≡ report
+    pub one_report : (report other : List ℕ) (machine second : Option Shown) → IsMade answers Run whole report machine
+        → IsMade answers Resume (saved ++ more) other second → other ≡ report
     one_report report other machine second run resume =
         let also = from_resume other second resume in
         let same : journal_in second ≡ journal_in machine =
-        one_for answers (slots_of (job whole)) one (job whole).events (journal_in second) (journal_in machine) (journal_kept answers Run whole second also.keeps) (journal_kept answers Run whole machine run.keeps) in
+        one_for answers (slots_of (job whole)) one (job whole).events (journal_in second) (journal_in machine)
+        (journal_kept answers Run whole second also.keeps) (journal_kept answers Run whole machine run.keeps) in
         also.text_is ∙ ap (report_of (job whole)) same ∙ sym run.text_is
 
     module _ (within : length (saved ++ more) ≤ text_limit) (few : length whole ≤ job_limit) where
@@ -199,7 +212,8 @@ module _ (answers : ℕ → ℕ → Type 0) (are_words : (n a : ℕ) → n < 2 ^
       due_text : (due : List ℕ) → IsText answers Run whole due → IsText answers Resume (saved ++ more) due
       due_text due text = (
         text.0,
-        subst (λ (slots : List Slot). IsJournalFor answers slots (resumed_job (saved ++ more)).events text.0) (same_loaded (job whole) (resumed_job (saved ++ more)) same_slots)
+        subst (λ (slots : List Slot). IsJournalFor answers slots (resumed_job (saved ++ more)).events text.0)
+            (same_loaded (job whole) (resumed_job (saved ++ more)) same_slots)
             (same_journal answers (slots_of (job whole)) (job whole).events (resumed_job (saved ++ more)).events text.0 same_calls text.1),
         text.2 ∙ same_report (job whole) (resumed_job (saved ++ more)) text.0 same_slots,
       )
@@ -220,7 +234,8 @@ pub further_of : (bytes more whole : List ℕ) → job_fault bytes ≡ None → 
 further_of bytes more whole free on clear =
     any_number (length on.0 + 1) 1 (job bytes).events more (sym (joined_fault bytes whole more on.0 on.1 free on.2) ∙ clear)
 
-pub whole_of : (bytes more whole : List ℕ) → job_fault bytes ≡ None → GoesOnWith bytes more whole → IsFurther (job bytes) more → IsWholeRun (job bytes) more whole
+pub whole_of : (bytes more whole : List ℕ) → job_fault bytes ≡ None → GoesOnWith bytes more whole → IsFurther (job bytes) more
+    → IsWholeRun (job bytes) more whole
 whole_of bytes more whole free on goes_on =
     let clear : job_fault whole ≡ None = joined_fault bytes whole more on.0 on.1 free on.2 ∙ any_number 1 (length on.0 + 1) (job bytes).events more goes_on in
     let told : job whole ≡ joined (job bytes) (more_events more) = joined_job bytes whole more on.0 on.1 free on.2 clear in

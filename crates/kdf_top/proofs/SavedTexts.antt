@@ -1,5 +1,6 @@
 -- The text of `save` with further lines, read as a snapshot.
-use Rattle.std.proofs.Common.{◌≡◌, ℕ, suc, ◌+◌, ◌-◌, ◌<◌, ◌≤◌, true, false, cond, eqb, List, [], ◌∷◌, ◌++◌, length, get_or, take, drop, Option, Some, None, Result, Ok, Err, refl, sym, ap, ap₂, ◌∙◌, subst, arith, ⊎_elim, append_assoc, length-append, length-take, All}
+use Rattle.std.proofs.Common.{◌≡◌, ℕ, suc, ◌+◌, ◌-◌, ◌<◌, ◌≤◌, true, false, cond, eqb, List, [], ◌∷◌, ◌++◌, length, get_or, take, drop, Option, Some, None}
+use Rattle.std.proofs.Common.{Result, Ok, Err, refl, sym, ap, ap₂, ◌∙◌, subst, arith, ⊎_elim, append_assoc, length-append, length-take, All}
 use Rattle.std.proofs.lemmas.Bool.{cases_Bool, eqb-true}
 use Rattle.std.proofs.lemmas.List.{drop_at, take_at}
 use Rattle.kdf_text.specs.Lines.{line_byte, lines}
@@ -17,7 +18,8 @@ use Rattle.kdf_job.proofs.FrontLaws.{front_before}
 use Rattle.kdf_snapshot.specs.Snapshot.{Parts, parts_of}
 use Rattle.kdf_snapshot.specs.Written.{journal_text, parts_written, seal_text}
 use Rattle.kdf_snapshot.proofs.WrittenParts.{parts_again}
-use Rattle.kdf_top.specs.Snapshots.{IsOf, IsSnapshot, after_job, ended, further, is_ended, line_after_job, parts, parts_in, parts_or_none, resumed_job, resumed_with, seal_lines, sealed_lines, sealed_text, snapshot_of}
+use Rattle.kdf_top.specs.Snapshots.{IsOf, IsSnapshot, after_job, ended, further, is_ended, line_after_job, parts, parts_in, parts_or_none, resumed_job}
+use Rattle.kdf_top.specs.Snapshots.{resumed_with, seal_lines, sealed_lines, sealed_text, snapshot_of}
 use Rattle.kdf_top.specs.Loaded.{slots_of}
 use Rattle.kdf_theory.specs.ByJournal.{seen_of}
 use Rattle.kdf_top.proofs.SealLines.{seal_can}
@@ -28,7 +30,8 @@ at_any : (n m : ℕ) (o : Option JobFault) → at_line n o ≡ None → at_line 
 at_any n m None none = refl
 at_any n m (Some fault) none = absurd cc
 
-behind_any : (n m : ℕ) (r : Result Draft JobFault) (f g : Draft → Option (JobFault × ℕ)) → ((e : Draft) → f e ≡ None → g e ≡ None) → behind_line n r f ≡ None → behind_line m r g ≡ None
+behind_any : (n m : ℕ) (r : Result Draft JobFault) (f g : Draft → Option (JobFault × ℕ)) → ((e : Draft) → f e ≡ None → g e ≡ None) → behind_line n r f ≡ None
+    → behind_line m r g ≡ None
 behind_any n m (Err fault) f g on none = absurd cc
 behind_any n m (Ok e) f g on none = on e none
 
@@ -150,7 +153,8 @@ cut_seal A B more =
     let e : length B ≡ length A + length B - length A = omega arith in
     ap (take (length A + length B - length A)) (drop_at A (B ++ more) (length A) refl) ∙ take_at B more (length A + length B - length A) e
 
-module _ (bytes more : List ℕ) (J : List Entry) (free : job_fault bytes ≡ None) (are : All IsEntry J) (further_free : more_fault 1 (job bytes).events more ≡ None) where
+module _ (bytes more : List ℕ) (J : List Entry) (free : job_fault bytes ≡ None) (are : All IsEntry J)
+    (further_free : more_fault 1 (job bytes).events more ≡ None) where
   abbrev sealed : List (List ℕ)
   sealed = seal_lines (job bytes) (seen_of (slots_of (job bytes)) J)
 

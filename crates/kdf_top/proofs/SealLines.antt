@@ -1,5 +1,6 @@
 -- No line ends within a line that is sealed, and none of them is ENDSNAPSHOT.
-use Rattle.std.proofs.Common.{◌≡◌, ℕ, zero, suc, ◌+◌, ◌-◌, ◌/◌, ◌%◌, Bool, true, false, cond, eqb, ◌&&◌, not, List, [], ◌∷◌, ◌++◌, length, get_or, map, codes, Option, Some, None, refl, All, arith}
+use Rattle.std.proofs.Common.{◌≡◌, ℕ, zero, suc, ◌+◌, ◌-◌, ◌/◌, ◌%◌, Bool, true, false, cond, eqb, ◌&&◌, not, List, [], ◌∷◌, ◌++◌, length, get_or, map, codes}
+use Rattle.std.proofs.Common.{Option, Some, None, refl, All, arith}
 use Rattle.std.specs.Fmt.{decimal}
 use Rattle.std.specs.List.{flat_map, range_with_len}
 use Rattle.std.proofs.lemmas.Bool.{or_parts}
@@ -22,8 +23,10 @@ use Rattle.kdf_processor.specs.declared.spooled.Spooled.{Spooled}
 use Rattle.kdf_processor.specs.Claims.{is_claimed}
 use Rattle.kdf_processor.specs.State.{Lending, State, device_at, lendings, own_fixture_at, word_at}
 use Rattle.kdf_job.specs.Job.{Job, SlotJob}
-use Rattle.kdf_report.specs.Devices.{bit, block_line, block_lines, block_name, device_line, device_lines, device_numbers, holding, host_text, own_lines, stint_lines, tape_line}
-use Rattle.kdf_report.specs.Text.{life_line, life_name, links_line, nest_line, q_line, q_lines, registers_lines, section, sections_lines, show_lines, spool_line, word_line}
+use Rattle.kdf_report.specs.Devices.{bit, block_line, block_lines, block_name, device_line, device_lines, device_numbers, holding, host_text, own_lines}
+use Rattle.kdf_report.specs.Devices.{stint_lines, tape_line}
+use Rattle.kdf_report.specs.Text.{life_line, life_name, links_line, nest_line, q_line, q_lines, registers_lines, section, sections_lines, show_lines}
+use Rattle.kdf_report.specs.Text.{spool_line, word_line}
 use Rattle.kdf_snapshot.specs.Stores.{slot_lines, store_line, store_lines, word_lines}
 use Rattle.kdf_snapshot.specs.Written.{CanBeSealed}
 use Rattle.kdf_snapshot.proofs.WholeLines.{IsWhole, decimal-whole, mapped-whole, octal-whole, whole-append}
@@ -94,7 +97,11 @@ all_sealable (l ∷ ls) are (suc k) d lt = all_sealable ls are.1 k d (omega arit
 life_can : (x : Life) → CanBeSealed (life_line x)
 life_can life.Live = record { whole = refl; other = refl }
 life_can life.Ended = record { whole = refl; other = refl }
-life_can (life.Failed kind) = record { whole = whole-append (codes "STATE ") (life_name (life.Failed kind)) refl (whole-append (codes "FAILED ") (name_of kind) refl (failure_whole kind)); other = refl }
+life_can (life.Failed kind) = record {
+  whole = whole-append (codes "STATE ") (life_name (life.Failed kind)) refl
+      (whole-append (codes "FAILED ") (name_of kind) refl (failure_whole kind));
+  other = refl;
+}
 
 orders_can : (n : ℕ) → CanBeSealed (codes "ORDERS " ++ decimal n)
 orders_can n = record { whole = whole-append (codes "ORDERS ") (decimal n) refl (decimal-whole n); other = refl }
@@ -151,14 +158,22 @@ registers_can r =
 
 word_can : (s : State) (a : ℕ) → CanBeSealed (word_line s a)
 word_can s a =
-    record { whole = more (codes "WORD " ++ decimal a) (octal (word_at s a)) (whole-append (codes "WORD ") (decimal a) refl (decimal-whole a)) (octal-whole (word_at s a)); other = refl }
+    record {
+      whole = more (codes "WORD " ++ decimal a) (octal (word_at s a)) (whole-append (codes "WORD ") (decimal a) refl (decimal-whole a))
+          (octal-whole (word_at s a));
+      other = refl;
+    }
 
 shows_can : (s : State) (show : ℕ × ℕ) → AreSealable (show_lines s show)
 shows_can s show = map_lines (word_line s) (range_with_len show.0 (show.1 + 1 - show.0)) (word_can s)
 
 spool_can : (x : Spooled) → CanBeSealed (spool_line x)
 spool_can x =
-    record { whole = more (codes "SPOOL " ++ decimal x.stream) (host_text x.text) (whole-append (codes "SPOOL ") (decimal x.stream) refl (decimal-whole x.stream)) (host_whole x.text); other = refl }
+    record {
+      whole = more (codes "SPOOL " ++ decimal x.stream) (host_text x.text)
+          (whole-append (codes "SPOOL ") (decimal x.stream) refl (decimal-whole x.stream)) (host_whole x.text);
+      other = refl;
+    }
 
 device_whole : (word : List ℕ) (d : ℕ) (held : Bool) (kind : Kind) (x : Progress) → IsWhole word → IsWhole (device_line word d held kind x)
 device_whole word d held kind x is =
@@ -232,4 +247,5 @@ seal_can j states =
     (lines_append (sections_lines j states) (store_lines j states)
     (flat_lines (λ (slot : SlotJob). section slot (states slot.p)) j.slots (λ slot. section_can slot (states slot.p)))
     (flat_lines (λ (slot : SlotJob). slot_lines slot (states slot.p)) j.slots
-    (λ slot. flat_lines (λ a. word_lines slot.p a (word_at (states slot.p) a)) (range_with_len 0 slot.size) (λ a. words_can slot.p a (word_at (states slot.p) a)))))
+    (λ slot. flat_lines (λ a. word_lines slot.p a (word_at (states slot.p) a)) (range_with_len 0 slot.size)
+    (λ a. words_can slot.p a (word_at (states slot.p) a)))))

@@ -20,7 +20,8 @@ lines_seen : (f : SlotJob → State → List (List ℕ)) (m : Shown) → ShowsSe
     → flat_map (λ (slot : SlotJob). f slot (state_at m slot.p)) slots ≡ flat_map (λ (slot : SlotJob). f slot (seen_of m.slots m.journal slot.p)) slots
 lines_seen f m shows [] has = refl
 lines_seen f m shows (slot ∷ slots) has =
-    ap₂ (λ (xs ys : List (List ℕ)). xs ++ ys) (ap (f slot) (state_at-seen m slot.p _ shows (has 0 slot (omega arith)))) (lines_seen f m shows slots (λ k d h. has (suc k) d (omega arith)))
+    ap₂ (λ (xs ys : List (List ℕ)). xs ++ ys) (ap (f slot) (state_at-seen m slot.p _ shows (has 0 slot (omega arith))))
+    (lines_seen f m shows slots (λ k d h. has (suc k) d (omega arith)))
 
 pub sealed_seen : (m : Shown) (j : Job) → ShowsSeen m → All (HasProgram m) j.slots → sealed_with j (state_at m) ≡ sealed_with j (seen_of m.slots m.journal)
 sealed_seen m j shows has =
@@ -48,7 +49,8 @@ last_line : codes "ENDSNAPSHOT" ++ 10 ∷ [] ≡ text (end_line ∷ [])
 unfolding text
 last_line = refl
 
-pub sealed_whole : (j : Job) (states : ℕ → State) (sections stores last mid all : List ℕ) → sections ≡ text (sections_lines j states) → stores ≡ text (store_lines j states)
+pub sealed_whole : (j : Job) (states : ℕ → State) (sections stores last mid all : List ℕ) → sections ≡ text (sections_lines j states)
+    → stores ≡ text (store_lines j states)
     → last ≡ codes "ENDSNAPSHOT" ++ 10 ∷ [] → mid ≡ sections ++ stores → all ≡ mid ++ last → all ≡ sealed_with j states
 sealed_whole j states sections stores last mid all is_sections is_stores is_last first second =
     let front : mid ≡ text (sections_lines j states ++ store_lines j states) =

@@ -14,7 +14,8 @@ use Rattle.kdf_top.specs.Snapshots.{after_job}
 pub verdict_whole : (v : Verdict) (none head mid all : List ℕ) → none ≡ [] → head ≡ none ++ text (check_line ∷ []) → mid ≡ head ++ text (verdict_line v ∷ [])
     → all ≡ mid ++ text (end_line ∷ []) → all ≡ text (verdict_lines v)
 verdict_whole v none head mid all is_none first second last =
-    let whole = text_more none mid all (check_line ∷ verdict_line v ∷ []) (end_line ∷ []) (text_more none head mid (check_line ∷ []) (verdict_line v ∷ []) first second) last in
+    let whole = text_more none mid all (check_line ∷ verdict_line v ∷ []) (end_line ∷ [])
+    (text_more none head mid (check_line ∷ []) (verdict_line v ∷ []) first second) last in
     subst (λ x. all ≡ x ++ text (verdict_lines v)) is_none whole
 
 -- a report of a job, and the text that tells the verdict on it
@@ -25,7 +26,8 @@ pub verdict_on : (answers : ℕ → ℕ → Type 0) (j : Job) (slots : List Slot
     → IsCheck answers slots j.events report v → due ≡ text (verdict_lines v) → IsVerdictOn answers j report due
 verdict_on answers j slots report due v are check is_due = (v, subst (λ (xs : List Slot). IsCheck answers xs j.events report v) are check, is_due)
 
-pub verdict_of : (answers : ℕ → ℕ → Type 0) (bytes : List ℕ) (j : Job) (rest due : List ℕ) → j ≡ front_job bytes → rest ≡ after_job bytes → IsVerdictOn answers j rest due
+pub verdict_of : (answers : ℕ → ℕ → Type 0) (bytes : List ℕ) (j : Job) (rest due : List ℕ) → j ≡ front_job bytes → rest ≡ after_job bytes
+    → IsVerdictOn answers j rest due
     → IsVerdictOf answers bytes due
 verdict_of answers bytes j rest due is_front is_rest said =
     subst (λ (x : Job). IsVerdictOn answers x (after_job bytes) due) is_front (subst (λ bs. IsVerdictOn answers j bs due) is_rest said)

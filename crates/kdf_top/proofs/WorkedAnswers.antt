@@ -15,11 +15,15 @@ use Rattle.kdf_top.specs.Answers.{called_for}
 use Rattle.kdf_command.specs.Commands.{command}
 use Rattle.kdf_top.specs.declared.status.Status.TheVariants as status
 
-pub then_deck : called_for (codes "run" ∷ []) (text (codes "KDF9 JOB 1" ∷ codes "SLOT 0" ∷ codes "STORE 32" ∷ codes "DECK" ∷ codes "ENDDECK" ∷ codes "SHOW 3 3" ∷ codes "SCHEDULE" ∷ codes "ORDERS 10" ∷ codes "ENDJOB" ∷ [])) ≡ status.Deck 0 NoFinish 0
+pub then_deck : called_for (codes "run" ∷ [])
+    (text (codes "KDF9 JOB 1" ∷ codes "SLOT 0" ∷ codes "STORE 32" ∷ codes "DECK" ∷ codes "ENDDECK" ∷ codes "SHOW 3 3" ∷ codes "SCHEDULE" ∷ codes "ORDERS 10"
+    ∷ codes "ENDJOB" ∷ [])) ≡ status.Deck 0 NoFinish 0
 unfolding assembled start statement_faults phase_after statements_of placed value lines words event read_line job job_fault command text
 then_deck = refl
 
-pub job_first : called_for (codes "run" ∷ []) (text (codes "KDF9 JOB 1" ∷ codes "SLOT 0" ∷ codes "STORE 32" ∷ codes "DECK" ∷ codes "ENDDECK" ∷ codes "SHOW 3 32" ∷ codes "SCHEDULE" ∷ codes "ORDERS 10" ∷ codes "ENDJOB" ∷ [])) ≡ status.Job ShowRange 6
+pub job_first : called_for (codes "run" ∷ [])
+    (text (codes "KDF9 JOB 1" ∷ codes "SLOT 0" ∷ codes "STORE 32" ∷ codes "DECK" ∷ codes "ENDDECK" ∷ codes "SHOW 3 32" ∷ codes "SCHEDULE" ∷ codes "ORDERS 10"
+    ∷ codes "ENDJOB" ∷ [])) ≡ status.Job ShowRange 6
 unfolding assembled start statement_faults phase_after statements_of placed value lines words event read_line job job_fault command text
 job_first = refl
 

@@ -4,7 +4,8 @@ use Rattle.std.specs.Prelude.{◌≡◌, ◌≢◌, ℕ, ◌+◌, ◌≤◌, ◌
 use Rattle.kdf_io.specs.Outside.{AddedFront, HasRisen, Advances, NothingLeft}
 use Rattle.kdf_io.specs.Reading.{TakesAtMost}
 use Rattle.kdf_theory.specs.Shown.{Shown}
-use Rattle.kdf_top.specs.Answers.{Answers, IsCalledBy, IsDoneBy, IsDoneOver, IsDue, IsDueBy, Wrote, WroteFront, WroteFrontBy, is_done, keeps_by, reads_by, refusal}
+use Rattle.kdf_top.specs.Answers.{Answers, IsCalledBy, IsDoneBy, IsDoneOver, IsDue, IsDueBy, Wrote, WroteFront, WroteFrontBy, is_done, keeps_by, reads_by}
+use Rattle.kdf_top.specs.Answers.{refusal}
 use Rattle.kdf_command.specs.Commands.{input_of}
 use Rattle.kdf_command.specs.declared.command.Command.{Command}
 use Rattle.kdf_command.specs.declared.command.Input.{Input}

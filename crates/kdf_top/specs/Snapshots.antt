@@ -1,6 +1,7 @@
 -- The text of a snapshot, and one that is read, with what goes on after it. `answers n a` says that a is one of the answers of the
 -- installation's service to n.
-use Rattle.std.specs.Prelude.{◌≡◌, ◌⊎◌, ℕ, ◌+◌, ◌-◌, ◌==◌, Bool, List, [], ◌∷◌, ◌++◌, Option, Some, None, Result, Ok, Err, drop, if◌then◌else◌, length, slice_index, take}
+use Rattle.std.specs.Prelude.{◌≡◌, ◌⊎◌, ℕ, ◌+◌, ◌-◌, ◌==◌, Bool, List, [], ◌∷◌, ◌++◌, Option, Some, None, Result, Ok, Err, drop, if◌then◌else◌, length}
+use Rattle.std.specs.Prelude.{slice_index, take}
 use Rattle.kdf_text.specs.Lines.{lines}
 use Rattle.kdf_text.specs.Text.{text}
 use Rattle.kdf_text.specs.declared.lines.TheConstants.{LINE_END}

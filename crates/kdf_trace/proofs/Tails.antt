@@ -44,7 +44,8 @@ pub calls_more : (front es : List Event) (m n : ℕ) → calls_made es ≡ calls
 calls_more front es m n is =
     calls_push es n
     ∙ (ap (λ cs. cs ++ replicate n AnOrder) is
-    ∙ (append_assoc (calls_made front) (replicate m AnOrder) (replicate n AnOrder) ∙ ap (λ cs. calls_made front ++ cs) (replicate-append-replicate m n AnOrder)))
+    ∙ (append_assoc (calls_made front) (replicate m AnOrder) (replicate n AnOrder)
+    ∙ ap (λ cs. calls_made front ++ cs) (replicate-append-replicate m n AnOrder)))
 
 -- a journal for events is one for others with the same calls
 pub same_calls : (answers : ℕ → ℕ → Type 0) (slots : List Slot) (es fs : List Event) (J : List Entry) → calls_made es ≡ calls_made fs

@@ -1,5 +1,6 @@
 -- Words with their addresses.
-use Rattle.std.proofs.Common.{◌≡◌, ℕ, zero, suc, ◌+◌, ◌-◌, ◌<◌, true, false, List, [], ◌∷◌, ◌++◌, length, get_or, take, drop, cond, refl, sym, ap, ◌∙◌, ⊎_elim, arith}
+use Rattle.std.proofs.Common.{◌≡◌, ℕ, zero, suc, ◌+◌, ◌-◌, ◌<◌, true, false, List, [], ◌∷◌, ◌++◌, length, get_or, take, drop, cond, refl, sym, ap, ◌∙◌, ⊎_elim}
+use Rattle.std.proofs.Common.{arith}
 use Rattle.std.proofs.lemmas.Bool.{cases_Bool}
 use Rattle.kdf_transfer.specs.declared.order.TransferOrder.{TransferOrder}
 use Rattle.kdf_transfer.specs.AtOnce.{is_backward, place_of, addressed, at_addresses, down_addresses}
@@ -19,7 +20,8 @@ down-drop a (suc i) (w ∷ ws) lt =
     down-drop (a - 1) i ws (omega arith) ∙ ap (λ b. (b, get_or ws i 0) ∷ drop (suc i) (down_addresses (a - 1) ws)) e
 
 -- word number i with its address
-pub addressed-drop : (o : TransferOrder) (first last i : ℕ) (ws : List ℕ) → i < length ws → drop i (addressed o first last ws) ≡ (place_of o first last i, get_or ws i 0) ∷ drop (suc i) (addressed o first last ws)
+pub addressed-drop : (o : TransferOrder) (first last i : ℕ) (ws : List ℕ) → i < length ws
+    → drop i (addressed o first last ws) ≡ (place_of o first last i, get_or ws i 0) ∷ drop (suc i) (addressed o first last ws)
 addressed-drop o first last i ws lt =
     ⊎_elim
     (λ (is : is_backward o ≡ true).

@@ -30,10 +30,15 @@ codes_below w =
     let c6 = All-cons (λ (c : ℕ). c < 64) (character_of 6 w) (character_of 7 w ∷ []) (code_below 6 w) c7 in
     let c5 = All-cons (λ (c : ℕ). c < 64) (character_of 5 w) (character_of 6 w ∷ character_of 7 w ∷ []) (code_below 5 w) c6 in
     let c4 = All-cons (λ (c : ℕ). c < 64) (character_of 4 w) (character_of 5 w ∷ character_of 6 w ∷ character_of 7 w ∷ []) (code_below 4 w) c5 in
-    let c3 = All-cons (λ (c : ℕ). c < 64) (character_of 3 w) (character_of 4 w ∷ character_of 5 w ∷ character_of 6 w ∷ character_of 7 w ∷ []) (code_below 3 w) c4 in
-    let c2 = All-cons (λ (c : ℕ). c < 64) (character_of 2 w) (character_of 3 w ∷ character_of 4 w ∷ character_of 5 w ∷ character_of 6 w ∷ character_of 7 w ∷ []) (code_below 2 w) c3 in
-    let c1 = All-cons (λ (c : ℕ). c < 64) (character_of 1 w) (character_of 2 w ∷ character_of 3 w ∷ character_of 4 w ∷ character_of 5 w ∷ character_of 6 w ∷ character_of 7 w ∷ []) (code_below 1 w) c2 in
-    All-cons (λ (c : ℕ). c < 64) (character_of 0 w) (character_of 1 w ∷ character_of 2 w ∷ character_of 3 w ∷ character_of 4 w ∷ character_of 5 w ∷ character_of 6 w ∷ character_of 7 w ∷ []) (code_below 0 w) c1
+    let c3 = All-cons (λ (c : ℕ). c < 64) (character_of 3 w) (character_of 4 w ∷ character_of 5 w ∷ character_of 6 w ∷ character_of 7 w ∷ [])
+    (code_below 3 w) c4 in
+    let c2 = All-cons (λ (c : ℕ). c < 64) (character_of 2 w)
+    (character_of 3 w ∷ character_of 4 w ∷ character_of 5 w ∷ character_of 6 w ∷ character_of 7 w ∷ []) (code_below 2 w) c3 in
+    let c1 = All-cons (λ (c : ℕ). c < 64) (character_of 1 w)
+    (character_of 2 w ∷ character_of 3 w ∷ character_of 4 w ∷ character_of 5 w ∷ character_of 6 w ∷ character_of 7 w ∷ []) (code_below 1 w) c2 in
+    All-cons (λ (c : ℕ). c < 64) (character_of 0 w)
+    (character_of 1 w ∷ character_of 2 w ∷ character_of 3 w ∷ character_of 4 w ∷ character_of 5 w ∷ character_of 6 w ∷ character_of 7 w ∷ [])
+    (code_below 0 w) c1
 
 -- codes of words are below 64, and eight a word
 pub codes_small : (ws : List ℕ) → All (λ c. c < 64) (codes_of_all ws)

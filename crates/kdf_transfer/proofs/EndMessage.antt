@@ -5,7 +5,8 @@ use Rattle.std.specs.Io.BufRead.{take_through}
 use Rattle.std.proofs.lemmas.List.Elements.{All-take}
 
 -- they are the first of all
-through_more : (b : Bool) (c : ℕ) (codes rest : List ℕ) → take (length rest) codes ≡ rest → take (length (cond b (c ∷ []) (c ∷ rest))) (c ∷ codes) ≡ cond b (c ∷ []) (c ∷ rest)
+through_more : (b : Bool) (c : ℕ) (codes rest : List ℕ) → take (length rest) codes ≡ rest → take (length (cond b (c ∷ []) (c ∷ rest))) (c ∷ codes)
+    ≡ cond b (c ∷ []) (c ∷ rest)
 through_more true c codes rest e = refl
 through_more false c codes rest e = ap (λ cs. c ∷ cs) e
 

@@ -1,5 +1,6 @@
 -- Words move, however the moves are cut.
-use Rattle.std.proofs.Common.{◌≡◌, ℕ, ◌+◌, ◌-◌, ◌<◌, ◌≤◌, min, true, false, List, [], ◌∷◌, ◌++◌, length, get_or, take, drop, Option, Some, None, cond, refl, sym, ap, ◌∙◌, ⊎_elim, arith, length-drop}
+use Rattle.std.proofs.Common.{◌≡◌, ℕ, ◌+◌, ◌-◌, ◌<◌, ◌≤◌, min, true, false, List, [], ◌∷◌, ◌++◌, length, get_or, take, drop, Option, Some, None, cond, refl}
+use Rattle.std.proofs.Common.{sym, ap, ◌∙◌, ⊎_elim, arith, length-drop}
 use Rattle.std.specs.Option.{option_map}
 use Rattle.std.proofs.lemmas.Bool.{cases_Bool}
 use Rattle.std.proofs.lemmas.List.{drop_min, drop-drop, take_min}
@@ -11,7 +12,8 @@ use Rattle.kdf_transfer.specs.InFlight.{Motion, area_words, all_words, words_of,
 use Rattle.kdf_transfer.proofs.Addresses.{addressed-drop, length-addressed, take_two}
 
 -- the words of an input order don't depend on the lease
-offer-lease : (o : TransferOrder) (first last : ℕ) (l l' : Option Lent) (f : Fixture) (p : Progress) → (is_input o ≡ false → l ≡ l') → offered o first last (area_words o first last l) f p ≡ offered o first last (area_words o first last l') f p
+offer-lease : (o : TransferOrder) (first last : ℕ) (l l' : Option Lent) (f : Fixture) (p : Progress) → (is_input o ≡ false → l ≡ l')
+    → offered o first last (area_words o first last l) f p ≡ offered o first last (area_words o first last l') f p
 unfolding offered
 offer-lease o first last l l' f p same =
     ⊎_elim
@@ -22,7 +24,8 @@ offer-lease o first last l l' f p same =
     (λ (not : is_input o ≡ false). ap (λ k. offered o first last (area_words o first last k) f p) (same not))
     (cases_Bool (is_input o))
 
-pub words-lease : (o : TransferOrder) (first last : ℕ) (l l' : Option Lent) (f : Fixture) (p : Progress) → (is_input o ≡ false → l ≡ l') → all_words o first last l f p ≡ all_words o first last l' f p
+pub words-lease : (o : TransferOrder) (first last : ℕ) (l l' : Option Lent) (f : Fixture) (p : Progress) → (is_input o ≡ false → l ≡ l')
+    → all_words o first last l f p ≡ all_words o first last l' f p
 unfolding all_words
 words-lease o first last l l' f p same = ap (stopped o) (offer-lease o first last l l' f p same)
 
@@ -114,7 +117,12 @@ moved_none t within =
         (cases_Bool (is_input t.order))
 
 -- one word more
-pub moved_one : (t : Motion) (w : ℕ) → t.moved < total_of t → w ≡ get_or (words_of t) t.moved 0 → (let u : Motion = record t { moved = t.moved + 1; lease = cond (is_input t.order) (option_map (λ l. with_lent_word l (place_of t.order t.first t.last t.moved) w) t.lease) t.lease } in u) ≡ moved_by 1 t
+pub moved_one : (t : Motion) (w : ℕ) → t.moved < total_of t → w ≡ get_or (words_of t) t.moved 0
+    → (let u : Motion = record t {
+      moved = t.moved + 1;
+      lease =
+          cond (is_input t.order) (option_map (λ l. with_lent_word l (place_of t.order t.first t.last t.moved) w) t.lease) t.lease;
+    } in u) ≡ moved_by 1 t
 unfolding moved_by
 moved_one t w more is =
     λ i. record { order = t.order; first = t.first; last = t.last; fixture = t.fixture; progress = t.progress; lease = leases i; moved = counts i }

@@ -27,6 +27,7 @@ unfolding by_number
 sixteen_numbers f = ap (λ n. map f (range_with_len 0 n)) (sym limit_is)
 
 -- one place more
-pub one_more : {X Y : Type 0} (f : X → Y) (g : ℕ → Y) (xs ys : List X) (x : X) (n : ℕ) → map f xs ≡ map g (range_with_len 0 n) → ys ≡ xs ++ x ∷ [] → f x ≡ g n → map f ys ≡ map g (range_with_len 0 (n + 1))
+pub one_more : {X Y : Type 0} (f : X → Y) (g : ℕ → Y) (xs ys : List X) (x : X) (n : ℕ) → map f xs ≡ map g (range_with_len 0 n) → ys ≡ xs ++ x ∷ [] → f x ≡ g n
+    → map f ys ≡ map g (range_with_len 0 (n + 1))
 one_more f g xs ys x n so more is =
     ap (map f) more ∙ map_push f xs x ∙ ap₂ (λ a b. a ++ b ∷ []) so is ∙ sym (map-range_with_len_more g 0 n n (omega arith))

@@ -15,7 +15,8 @@ written-append [] ys ws = refl
 written-append (x ∷ xs) ys ws = written-append xs ys (slice_set ws x.0 x.1)
 
 -- one word more
-pub written_next : (o : TransferOrder) (first last i w : ℕ) (moved ws : List ℕ) → i < length moved → w ≡ get_or moved i 0 → slice_set (written (take i (addressed o first last moved)) ws) (place_of o first last i) w ≡ written (take (i + 1) (addressed o first last moved)) ws
+pub written_next : (o : TransferOrder) (first last i w : ℕ) (moved ws : List ℕ) → i < length moved → w ≡ get_or moved i 0
+    → slice_set (written (take i (addressed o first last moved)) ws) (place_of o first last i) w ≡ written (take (i + 1) (addressed o first last moved)) ws
 written_next o first last i w moved ws lt is =
     ap (λ x. slice_set (written (take i ms) ws) (place_of o first last i) x) is
     ∙ sym (written-append (take i ms) ((place_of o first last i, get_or moved i 0) ∷ []) ws)
@@ -26,18 +27,22 @@ written_next o first last i w moved ws lt is =
     ms = addressed o first last moved
 
 -- all words
-pub written_all : (o : TransferOrder) (first last i : ℕ) (moved ws : List ℕ) → i ≡ length moved → written (take i (addressed o first last moved)) ws ≡ written (addressed o first last moved) ws
+pub written_all : (o : TransferOrder) (first last i : ℕ) (moved ws : List ℕ) → i ≡ length moved → written (take i (addressed o first last moved)) ws
+    ≡ written (addressed o first last moved) ws
 written_all o first last i moved ws all =
     ap (λ xs. written xs ws) (take_all i (addressed o first last moved) (omega (arith, length-addressed o first last moved)))
 
 -- what an input order stores, and what no other does
-pub stored_input : (o : TransferOrder) (first last : ℕ) (ws : List ℕ) (f : Fixture) (p : Progress) → is_input o ≡ true → written (addressed o first last (stopped o (take (last + 1 - first) (given o f p)))) ws ≡ stored o first last ws f p
+pub stored_input : (o : TransferOrder) (first last : ℕ) (ws : List ℕ) (f : Fixture) (p : Progress) → is_input o ≡ true
+    → written (addressed o first last (stopped o (take (last + 1 - first) (given o f p)))) ws ≡ stored o first last ws f p
 unfolding offered
 stored_input o first last ws f p is =
-    sym (ap (λ b. cond b (written (addressed o first last (stopped o (cond b (take (last + 1 - first) (given o f p)) (cond (is_output o) (order_words o first last ws) [])))) ws) ws) is)
+    sym (ap (λ b. cond b (written (addressed o first last
+    (stopped o (cond b (take (last + 1 - first) (given o f p)) (cond (is_output o) (order_words o first last ws) [])))) ws) ws) is)
 
 -- how many words are written, by the number of words of the area
-pub counted : (o : TransferOrder) (first last n t : ℕ) (g : List ℕ) → is_input o ≡ true → n ≡ area_len o first last → t ≡ length (stopped o (take n g)) → t ≡ length (stopped o (take (last + 1 - first) g))
+pub counted : (o : TransferOrder) (first last n t : ℕ) (g : List ℕ) → is_input o ≡ true → n ≡ area_len o first last → t ≡ length (stopped o (take n g))
+    → t ≡ length (stopped o (take (last + 1 - first) g))
 counted o first last n t g is n-is t-is = t-is ∙ ap (λ k. length (stopped o (take k g))) (n-is ∙ len_is o first last (input_has o is))
 
 -- there is room for the characters of one word more

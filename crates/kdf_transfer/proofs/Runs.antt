@@ -1,5 +1,7 @@
 -- Words that move in one run.
-use Rattle.std.proofs.Common.{◌≡◌, ℕ, zero, suc, ◌+◌, ◌-◌, ◌*◌, ◌/◌, ◌%◌, ◌<◌, ◌≤◌, ◌++◌, min, Bool, true, false, List, [], ◌∷◌, length, get_or, take, drop, map, replicate, Option, Some, None, is_some, cond, refl, sym, ap, ap₂, ◌∙◌, ⊎_elim, arith, append_assoc, length-append, length-take, length-drop}
+use Rattle.std.proofs.Common.{◌≡◌, ℕ, zero, suc, ◌+◌, ◌-◌, ◌*◌, ◌/◌, ◌%◌, ◌<◌, ◌≤◌, ◌++◌, min, Bool, true, false, List, [], ◌∷◌, length, get_or, take, drop}
+use Rattle.std.proofs.Common.{map, replicate, Option, Some, None, is_some, cond, refl, sym, ap, ap₂, ◌∙◌, ⊎_elim, arith, append_assoc, length-append}
+use Rattle.std.proofs.Common.{length-take, length-drop}
 use Rattle.std.specs.Prelude.{◌||◌, reverse}
 use Rattle.std.specs.List.{range_with_len}
 use Rattle.std.specs.Option.{option_map}
@@ -64,7 +66,8 @@ module _ (o : TransferOrder) (first last : ℕ) (l : Option Lent) (f : Fixture) 
   pub run_all : (codes : List ℕ) (total : ℕ) → IsRun o codes (given o f p) → total ≡ length all → take total (run_words o codes) ≡ all
   run_all codes total run total-is =
       let e = ap length (run_are codes run) in
-      let least : total ≡ min (last + 1 - first) (length (run_words o codes)) = omega (arith, e, total-is, length-take (last + 1 - first) (run_words o codes)) in
+      let least : total ≡ min (last + 1 - first) (length (run_words o codes)) = omega (arith, e, total-is, length-take (last + 1 - first) (run_words o codes))
+      in
       ap (λ n. take n (run_words o codes)) least ∙ take_min (last + 1 - first) (run_words o codes) ∙ sym (run_are codes run)
 
   pub run_given : (codes : List ℕ) (total : ℕ) → IsRun o codes (given o f p) → total ≡ length all → total ≤ length (words_of codes)
@@ -72,7 +75,8 @@ module _ (o : TransferOrder) (first last : ℕ) (l : Option Lent) (f : Fixture) 
       let e = ap length (run_are codes run) in
       omega (arith, e, total-is, length-take (last + 1 - first) (run_words o codes), length-run o codes)
 
-  word_out : (k : Lent) (total : ℕ) → l ≡ Some k → is_input o ≡ false → is_output o ≡ true → (i : ℕ) → i < total → i < length all → get_or (lent_words k first total) i 0 ≡ get_or all i 0
+  word_out : (k : Lent) (total : ℕ) → l ≡ Some k → is_input o ≡ false → is_output o ≡ true → (i : ℕ) → i < total → i < length all
+      → get_or (lent_words k first total) i 0 ≡ get_or all i 0
   word_out k total l-is not is i low inside =
       let offer = output_offer o first last l f p not is in
       let within : i < last + 1 - first = omega (arith, few_words o first last l f p) in
@@ -96,7 +100,8 @@ module _ (o : TransferOrder) (first last : ℕ) (l : Option Lent) (f : Fixture) 
       word_out k total l-is not is i low inside)
 
 -- no word is moved without an area
-pub none_left : (o : TransferOrder) (first last : ℕ) (l : Option Lent) (f : Fixture) (p : Progress) → l ≡ None → is_some l ≡ has_area o → length (all_words o first last l f p) ≡ 0
+pub none_left : (o : TransferOrder) (first last : ℕ) (l : Option Lent) (f : Fixture) (p : Progress) → l ≡ None → is_some l ≡ has_area o
+    → length (all_words o first last l f p) ≡ 0
 none_left o first last l f p none some =
     ⊎_elim
     (λ (lt : 0 < length (all_words o first last l f p)).
@@ -105,7 +110,8 @@ none_left o first last l f p none some =
     (cases_lt 0 (length (all_words o first last l f p)))
 
 -- one word more in a lease
-put_next : (ms : List (ℕ × ℕ)) (from i place w : ℕ) (l : Lent) → from ≤ i → drop i ms ≡ (place, w) ∷ drop (suc i) ms → with_lent_word (put_words (take (i - from) (drop from ms)) l) place w ≡ put_words (take (i + 1 - from) (drop from ms)) l
+put_next : (ms : List (ℕ × ℕ)) (from i place w : ℕ) (l : Lent) → from ≤ i → drop i ms ≡ (place, w) ∷ drop (suc i) ms
+    → with_lent_word (put_words (take (i - from) (drop from ms)) l) place w ≡ put_words (take (i + 1 - from) (drop from ms)) l
 put_next ms from i place w l le is =
     let k : ℕ = i - from in
     let at : from + k ≡ i = omega arith in
@@ -116,7 +122,10 @@ put_next ms from i place w l le is =
     ∙ ap (λ xs. put_words xs l) (take_two k 1 (drop from ms))
     ∙ ap (λ j. put_words (take j (drop from ms)) l) more
 
-pub down_next : (codes : List ℕ) (last total from i w : ℕ) (l : Lent) → from ≤ i → i < total → total ≤ length (words_of codes) → w ≡ first_word (drop (8 * ((length codes + 7) / 8 - 1 - i)) codes) → with_lent_word (put_words (take (i - from) (drop from (down_addresses last (take total (reverse (words_of codes)))))) l) (last - i) w ≡ put_words (take (i + 1 - from) (drop from (down_addresses last (take total (reverse (words_of codes)))))) l
+pub down_next : (codes : List ℕ) (last total from i w : ℕ) (l : Lent) → from ≤ i → i < total → total ≤ length (words_of codes)
+    → w ≡ first_word (drop (8 * ((length codes + 7) / 8 - 1 - i)) codes)
+    → with_lent_word (put_words (take (i - from) (drop from (down_addresses last (take total (reverse (words_of codes)))))) l) (last - i) w
+    ≡ put_words (take (i + 1 - from) (drop from (down_addresses last (take total (reverse (words_of codes)))))) l
 down_next codes last total from i w l le lt few is =
     let rs = reverse (words_of codes) in
     let ws = take total rs in
@@ -127,7 +136,8 @@ down_next codes last total from i w l le lt few is =
     let same : get_or ws i 0 ≡ w =
     get_or-take total rs i 0 lt ∙ get_or-reverse (words_of codes) i 0 low ∙ ap (λ k. get_or (words_of codes) (k - 1 - i) 0) n
     ∙ get_or-words_of codes ((length codes + 7) / 8 - 1 - i) 0 within ∙ sym is in
-    put_next (down_addresses last ws) from i (last - i) w l le (down-drop last i ws inside ∙ ap (λ x. (last - i, x) ∷ drop (suc i) (down_addresses last ws)) same)
+    put_next (down_addresses last ws) from i (last - i) w l le (down-drop last i ws inside
+    ∙ ap (λ x. (last - i, x) ∷ drop (suc i) (down_addresses last ws)) same)
 
 -- the words of a group more in a lease
 drop_at : (a n : ℕ) (ws : List ℕ) → drop n (at_addresses a ws) ≡ at_addresses (a + n) (drop n ws)
@@ -156,7 +166,8 @@ take_in_take (suc i) n (suc m) (x ∷ xs) le = take_in_take i n m xs (omega arit
 words_from : (codes : List ℕ) (i : ℕ) → 8 * i ≤ length codes → words_of (drop (8 * i) codes) ≡ drop i (words_of codes)
 words_from codes i le =
     let ws = words_of codes in
-    let count : length (words_of (drop (8 * i) codes)) ≡ length (drop i ws) = omega (arith, length-words_of codes, length-words_of (drop (8 * i) codes), length-drop (8 * i) codes, length-drop i ws) in
+    let count : length (words_of (drop (8 * i) codes)) ≡ length (drop i ws) =
+    omega (arith, length-words_of codes, length-words_of (drop (8 * i) codes), length-drop (8 * i) codes, length-drop i ws) in
     ext_get_or 0 (words_of (drop (8 * i) codes)) (drop i ws) count (λ k h.
     let at : 8 * i + 8 * k ≡ 8 * (i + k) = omega arith in
     let here : k < (length (drop (8 * i) codes) + 7) / 8 = omega (arith, length-words_of (drop (8 * i) codes)) in
@@ -165,7 +176,9 @@ words_from codes i le =
     ∙ ap first_word (drop-drop (8 * k) (8 * i) codes ∙ ap (λ n. drop n codes) at)
     ∙ sym (get_or-drop i ws k 0 ∙ get_or-words_of codes (i + k) 0 there))
 
-pub group_next : (codes : List ℕ) (first total from i n : ℕ) (l : Lent) → from ≤ i → i + n ≤ total → 8 * i ≤ length codes → with_lent_words (put_words (take (i - from) (drop from (at_addresses first (take total (words_of codes))))) l) (first + i) (take n (words_of (drop (8 * i) codes))) ≡ put_words (take (i + n - from) (drop from (at_addresses first (take total (words_of codes))))) l
+pub group_next : (codes : List ℕ) (first total from i n : ℕ) (l : Lent) → from ≤ i → i + n ≤ total → 8 * i ≤ length codes
+    → with_lent_words (put_words (take (i - from) (drop from (at_addresses first (take total (words_of codes))))) l) (first + i)
+    (take n (words_of (drop (8 * i) codes))) ≡ put_words (take (i + n - from) (drop from (at_addresses first (take total (words_of codes))))) l
 group_next codes first total from i n l le fits given =
     let ws = words_of codes in
     let ms = at_addresses first (take total ws) in
@@ -183,25 +196,31 @@ group_next codes first total from i n l le fits given =
     ∙ ap (λ j. put_words (take j (drop from ms)) l) more
 
 -- a word of a group of a lease
-pub word_of_group : (l : Lent) (first from k : ℕ) → l.first ≡ first / 32 → (first + from) % 32 + k < 32 → get_or (get_or l.groups ((first + from) / 32 - first / 32) []) ((first + from) % 32 + k) 0 ≡ lent_word l (first + (from + k))
+pub word_of_group : (l : Lent) (first from k : ℕ) → l.first ≡ first / 32 → (first + from) % 32 + k < 32
+    → get_or (get_or l.groups ((first + from) / 32 - first / 32) []) ((first + from) % 32 + k) 0 ≡ lent_word l (first + (from + k))
 word_of_group l first from k is one =
     let at : (first + from) / 32 - first / 32 ≡ (first + (from + k)) / 32 - l.first = omega arith in
     let rem : (first + from) % 32 + k ≡ (first + (from + k)) % 32 = omega arith in
     ap₂ (λ g j. get_or (get_or l.groups g []) j 0) at rem
 
 -- and all of them
-pub up_all : (words : List ℕ) (first total from : ℕ) (l : Lent) → put_words (take (total - from) (drop from (at_addresses first (take total words)))) l ≡ put_words (drop from (at_addresses first (take total words))) l
+pub up_all : (words : List ℕ) (first total from : ℕ) (l : Lent) → put_words (take (total - from) (drop from (at_addresses first (take total words)))) l
+    ≡ put_words (drop from (at_addresses first (take total words))) l
 up_all words first total from l =
     let ms = at_addresses first (take total words) in
-    ap (λ xs. put_words xs l) (take_all (total - from) (drop from ms) (omega (arith, length-drop from ms, length-at first (take total words), length-take total words)))
+    ap (λ xs. put_words xs l) (take_all (total - from) (drop from ms)
+    (omega (arith, length-drop from ms, length-at first (take total words), length-take total words)))
 
-pub down_all : (words : List ℕ) (last total from : ℕ) (l : Lent) → put_words (take (total - from) (drop from (down_addresses last (take total words)))) l ≡ put_words (drop from (down_addresses last (take total words))) l
+pub down_all : (words : List ℕ) (last total from : ℕ) (l : Lent) → put_words (take (total - from) (drop from (down_addresses last (take total words)))) l
+    ≡ put_words (drop from (down_addresses last (take total words))) l
 down_all words last total from l =
     let ms = down_addresses last (take total words) in
-    ap (λ xs. put_words xs l) (take_all (total - from) (drop from ms) (omega (arith, length-drop from ms, length-down last (take total words), length-take total words)))
+    ap (λ xs. put_words xs l) (take_all (total - from) (drop from ms)
+    (omega (arith, length-drop from ms, length-down last (take total words), length-take total words)))
 
 -- the characters of one word more in a block
-pub codes_next : (b b' ws : List ℕ) (i w : ℕ) → take (8 * i) b ≡ codes_of_all (take i ws) → i < length ws → w ≡ get_or ws i 0 → 8 * i + 8 ≤ length b → b' ≡ take (8 * i) b ++ (codes_of w ++ drop (8 * i + 8) b) → take (8 * (i + 1)) b' ≡ codes_of_all (take (i + 1) ws)
+pub codes_next : (b b' ws : List ℕ) (i w : ℕ) → take (8 * i) b ≡ codes_of_all (take i ws) → i < length ws → w ≡ get_or ws i 0 → 8 * i + 8 ≤ length b
+    → b' ≡ take (8 * i) b ++ (codes_of w ++ drop (8 * i + 8) b) → take (8 * (i + 1)) b' ≡ codes_of_all (take (i + 1) ws)
 codes_next b b' ws i w is lt w-is fits b-is =
     let front = take (8 * i) b ++ codes_of w in
     let size : length front ≡ 8 * (i + 1) = omega (arith, length-append (take (8 * i) b) (codes_of w), length-take (8 * i) b) in
@@ -212,13 +231,20 @@ codes_next b b' ws i w is lt w-is fits b-is =
 
 pub length-next : (b b' : List ℕ) (i w : ℕ) → 8 * i + 8 ≤ length b → b' ≡ take (8 * i) b ++ (codes_of w ++ drop (8 * i + 8) b) → length b' ≡ length b
 length-next b b' i w fits b-is =
-    ap length b-is ∙ omega (arith, length-append (take (8 * i) b) (codes_of w ++ drop (8 * i + 8) b), length-append (codes_of w) (drop (8 * i + 8) b), length-take (8 * i) b, length-drop (8 * i + 8) b)
+    ap length b-is ∙ omega (
+      arith,
+      length-append (take (8 * i) b) (codes_of w ++ drop (8 * i + 8) b),
+      length-append (codes_of w) (drop (8 * i + 8) b),
+      length-take (8 * i) b,
+      length-drop (8 * i + 8) b,
+    )
 
 pub codes_all : (b ws : List ℕ) (n : ℕ) → take (8 * n) b ≡ codes_of_all (take n ws) → length b ≤ 8 * n → length ws ≤ n → b ≡ codes_of_all ws
 codes_all b ws n is few all = sym (take_all (8 * n) b few) ∙ is ∙ ap codes_of_all (take_all n ws all)
 
 -- a block with places for more characters
-pub codes_first : (b b' ws : List ℕ) (from total : ℕ) → b ≡ codes_of_all (take from ws) → from ≤ total → length ws ≡ total → b' ≡ take (8 * total) b ++ replicate (8 * total - length b) 0 → take (8 * from) b' ≡ codes_of_all (take from ws)
+pub codes_first : (b b' ws : List ℕ) (from total : ℕ) → b ≡ codes_of_all (take from ws) → from ≤ total → length ws ≡ total
+    → b' ≡ take (8 * total) b ++ replicate (8 * total - length b) 0 → take (8 * from) b' ≡ codes_of_all (take from ws)
 codes_first b b' ws from total is le many b-is =
     let size : length b ≡ 8 * from = omega (arith, ap length is, length-codes (take from ws), length-take from ws) in
     ap (take (8 * from)) (b-is ∙ ap (λ xs. xs ++ replicate (8 * total - length b) 0) (take_all (8 * total) b (omega (arith, size))))
@@ -226,7 +252,8 @@ codes_first b b' ws from total is le many b-is =
     ∙ is
 
 -- a transfer all of whose words have moved
-pub ended_input : (t : Motion) (n : ℕ) (l : Option Lent) → t.moved ≤ total_of t → n ≡ total_of t → is_input t.order ≡ true → l ≡ option_map (put_words (drop t.moved (moves_of t))) t.lease → (let u : Motion = record t { moved = n; lease = l } in u) ≡ moved_by n t
+pub ended_input : (t : Motion) (n : ℕ) (l : Option Lent) → t.moved ≤ total_of t → n ≡ total_of t → is_input t.order ≡ true
+    → l ≡ option_map (put_words (drop t.moved (moves_of t))) t.lease → (let u : Motion = record t { moved = n; lease = l } in u) ≡ moved_by n t
 unfolding moved_by
 ended_input t n l within all is l-is =
     λ i. record { order = t.order; first = t.first; last = t.last; fixture = t.fixture; progress = t.progress; lease = leases i; moved = counts i }
@@ -246,7 +273,8 @@ ended_input t n l within all is l-is =
         ∙ ap (λ xs. option_map (put_words xs) t.lease) (sym rest)
         ∙ sym (ap (λ b. cond b (option_map (put_words (take n (drop t.moved ms))) t.lease) t.lease) is)
 
-pub ended_other : (t : Motion) (n : ℕ) → t.moved ≤ total_of t → n ≡ total_of t → is_input t.order ≡ false → (let u : Motion = record t { moved = n } in u) ≡ moved_by n t
+pub ended_other : (t : Motion) (n : ℕ) → t.moved ≤ total_of t → n ≡ total_of t → is_input t.order ≡ false
+    → (let u : Motion = record t { moved = n } in u) ≡ moved_by n t
 unfolding moved_by
 ended_other t n within all not =
     λ i. record { order = t.order; first = t.first; last = t.last; fixture = t.fixture; progress = t.progress; lease = leases i; moved = counts i }

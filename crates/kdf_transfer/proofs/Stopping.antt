@@ -1,5 +1,6 @@
 -- Where an order stops: the words up to and with the first that has an End Message.
-use Rattle.std.proofs.Common.{◌≡◌, ℕ, zero, suc, ◌+◌, ◌<◌, ◌≤◌, ◌∷◌, ◌++◌, Bool, true, false, List, [], length, get_or, take, drop, map, Some, None, cond, refl, sym, ap, ◌∙◌, ⊎_elim, arith, append_assoc, length-take, length-drop}
+use Rattle.std.proofs.Common.{◌≡◌, ℕ, zero, suc, ◌+◌, ◌<◌, ◌≤◌, ◌∷◌, ◌++◌, Bool, true, false, List, [], length, get_or, take, drop, map, Some, None, cond, refl}
+use Rattle.std.proofs.Common.{sym, ap, ◌∙◌, ⊎_elim, arith, append_assoc, length-take, length-drop}
 use Rattle.std.specs.Prelude.{◌&&◌}
 use Rattle.std.specs.List.{slice_get}
 use Rattle.std.proofs.lemmas.Bool.{cases_lt}
@@ -22,7 +23,8 @@ through-le : (ws : List ℕ) → length (through_end_word ws) ≤ length ws
 through-le [] = omega arith
 through-le (w ∷ ws) = more_of (has_end (codes_of w)) w ws (through_end_word ws) (through-le ws)
 
-at_of : (b : Bool) (w : ℕ) (ws rest : List ℕ) (i : ℕ) → ((k : ℕ) → k < length rest → get_or rest k 0 ≡ get_or ws k 0) → i < length (cond b (w ∷ []) (w ∷ rest)) → get_or (cond b (w ∷ []) (w ∷ rest)) i 0 ≡ get_or (w ∷ ws) i 0
+at_of : (b : Bool) (w : ℕ) (ws rest : List ℕ) (i : ℕ) → ((k : ℕ) → k < length rest → get_or rest k 0 ≡ get_or ws k 0) → i < length (cond b (w ∷ []) (w ∷ rest))
+    → get_or (cond b (w ∷ []) (w ∷ rest)) i 0 ≡ get_or (w ∷ ws) i 0
 at_of true w ws rest zero same lt = refl
 at_of true w ws rest (suc i) same lt = absurd (omega arith)
 at_of false w ws rest zero same lt = refl
@@ -43,7 +45,8 @@ stopped-le o ws = at (stops_at_end o)
 pub stopped-at : (o : TransferOrder) (ws : List ℕ) (i : ℕ) → i < length (stopped o ws) → get_or (stopped o ws) i 0 ≡ fill o (get_or ws i 0)
 stopped-at o ws i = at (stops_at_end o)
   where
-    at : (b : Bool) → i < length (cond b (map (filled o) (through_end_word ws)) ws) → get_or (cond b (map (filled o) (through_end_word ws)) ws) i 0 ≡ cond b (filled o (get_or ws i 0)) (get_or ws i 0)
+    at : (b : Bool) → i < length (cond b (map (filled o) (through_end_word ws)) ws) → get_or (cond b (map (filled o) (through_end_word ws)) ws) i 0
+        ≡ cond b (filled o (get_or ws i 0)) (get_or ws i 0)
     at true lt =
         let within : i < length (through_end_word ws) = omega (arith, length-map (through_end_word ws) (filled o)) in
         get_or-map (filled o) (through_end_word ws) i 0 0 within ∙ ap (filled o) (through-at ws i within)
@@ -68,7 +71,8 @@ stopped-last o w rest = at (stops_at_end o) (has_end (codes_of w))
 stopped-more : (o : TransferOrder) (w : ℕ) (rest : List ℕ) → is_last o w ≡ false → stopped o (w ∷ rest) ≡ fill o w ∷ stopped o rest
 stopped-more o w rest = at (stops_at_end o) (has_end (codes_of w))
   where
-    at : (b e : Bool) → b && e ≡ false → cond b (map (filled o) (cond e (w ∷ []) (w ∷ through_end_word rest))) (w ∷ rest) ≡ cond b (filled o w) w ∷ cond b (map (filled o) (through_end_word rest)) rest
+    at : (b e : Bool) → b && e ≡ false → cond b (map (filled o) (cond e (w ∷ []) (w ∷ through_end_word rest))) (w ∷ rest) ≡ cond b (filled o w) w ∷ cond b
+        (map (filled o) (through_end_word rest)) rest
     at true true h = cc
     at true false h = refl
     at false e h = refl
@@ -85,21 +89,26 @@ drop-past ws i none =
     (cases_lt i (length ws))
 
 -- how many words are moved, by what stands at word i
-pub count_none : (o : TransferOrder) (ws : List ℕ) (i : ℕ) → slice_get ws i ≡ None → length (stopped o ws) ≡ i + length (stopped o (drop i ws)) → length (stopped o ws) ≡ i
+pub count_none : (o : TransferOrder) (ws : List ℕ) (i : ℕ) → slice_get ws i ≡ None → length (stopped o ws) ≡ i + length (stopped o (drop i ws))
+    → length (stopped o ws) ≡ i
 count_none o ws i none so =
     let past = drop-past ws i none in
     omega (arith, so, stopped-le o (drop i ws), length-drop i ws)
 
-pub count_last : (o : TransferOrder) (ws : List ℕ) (i w : ℕ) → slice_get ws i ≡ Some w → is_last o w ≡ true → length (stopped o ws) ≡ i + length (stopped o (drop i ws)) → length (stopped o ws) ≡ i + 1
+pub count_last : (o : TransferOrder) (ws : List ℕ) (i w : ℕ) → slice_get ws i ≡ Some w → is_last o w ≡ true
+    → length (stopped o ws) ≡ i + length (stopped o (drop i ws)) → length (stopped o ws) ≡ i + 1
 count_last o ws i w is last so =
     so ∙ ap (λ xs. i + length (stopped o xs)) (drop-there ws i w is) ∙ ap (λ xs. i + length xs) (stopped-last o w (drop (i + 1) ws) last)
 
-pub count_more : (o : TransferOrder) (ws : List ℕ) (i w : ℕ) → slice_get ws i ≡ Some w → is_last o w ≡ false → length (stopped o ws) ≡ i + length (stopped o (drop i ws)) → length (stopped o ws) ≡ i + 1 + length (stopped o (drop (i + 1) ws))
+pub count_more : (o : TransferOrder) (ws : List ℕ) (i w : ℕ) → slice_get ws i ≡ Some w → is_last o w ≡ false
+    → length (stopped o ws) ≡ i + length (stopped o (drop i ws)) → length (stopped o ws) ≡ i + 1 + length (stopped o (drop (i + 1) ws))
 count_more o ws i w is goes so =
-    let e : length (stopped o (drop i ws)) ≡ suc (length (stopped o (drop (i + 1) ws))) = ap (λ xs. length (stopped o xs)) (drop-there ws i w is) ∙ ap length (stopped-more o w (drop (i + 1) ws) goes) in
+    let e : length (stopped o (drop i ws)) ≡ suc (length (stopped o (drop (i + 1) ws))) = ap (λ xs. length (stopped o xs)) (drop-there ws i w is)
+    ∙ ap length (stopped-more o w (drop (i + 1) ws) goes) in
     omega (arith, so)
 
-pub count_end : (o : TransferOrder) (ws : List ℕ) (i : ℕ) → length ws ≤ i → length (stopped o ws) ≡ i + length (stopped o (drop i ws)) → length (stopped o ws) ≡ i
+pub count_end : (o : TransferOrder) (ws : List ℕ) (i : ℕ) → length ws ≤ i → length (stopped o ws) ≡ i + length (stopped o (drop i ws))
+    → length (stopped o ws) ≡ i
 count_end o ws i past so = omega (arith, so, stopped-le o (drop i ws), length-drop i ws)
 
 -- an output order moves its words as they are
@@ -111,14 +120,16 @@ fill-output o w not = at (stops_at_end o)
     at false = refl
 
 -- the words that go out, by word i
-pub sent_last : (o : TransferOrder) (ws : List ℕ) (i w : ℕ) → is_input o ≡ false → i < length ws → w ≡ get_or ws i 0 → is_last o w ≡ true → stopped o ws ≡ take i ws ++ stopped o (drop i ws) → stopped o ws ≡ take (i + 1) ws
+pub sent_last : (o : TransferOrder) (ws : List ℕ) (i w : ℕ) → is_input o ≡ false → i < length ws → w ≡ get_or ws i 0 → is_last o w ≡ true
+    → stopped o ws ≡ take i ws ++ stopped o (drop i ws) → stopped o ws ≡ take (i + 1) ws
 sent_last o ws i w not lt is last so =
     so
     ∙ ap (λ xs. take i ws ++ stopped o xs) (drop_more ws i 0 lt ∙ ap (λ x. x ∷ drop (i + 1) ws) (sym is))
     ∙ ap (λ xs. take i ws ++ xs) (stopped-last o w (drop (i + 1) ws) last ∙ ap (λ x. x ∷ []) (fill-output o w not ∙ is))
     ∙ sym (take_more ws i 0 lt)
 
-pub sent_more : (o : TransferOrder) (ws : List ℕ) (i w : ℕ) → is_input o ≡ false → i < length ws → w ≡ get_or ws i 0 → is_last o w ≡ false → stopped o ws ≡ take i ws ++ stopped o (drop i ws) → stopped o ws ≡ take (i + 1) ws ++ stopped o (drop (i + 1) ws)
+pub sent_more : (o : TransferOrder) (ws : List ℕ) (i w : ℕ) → is_input o ≡ false → i < length ws → w ≡ get_or ws i 0 → is_last o w ≡ false
+    → stopped o ws ≡ take i ws ++ stopped o (drop i ws) → stopped o ws ≡ take (i + 1) ws ++ stopped o (drop (i + 1) ws)
 sent_more o ws i w not lt is goes so =
     so
     ∙ ap (λ xs. take i ws ++ stopped o xs) (drop_more ws i 0 lt ∙ ap (λ x. x ∷ drop (i + 1) ws) (sym is))
@@ -141,7 +152,8 @@ cut_at n i g lt =
     (cases_lt i (length g))
 
 -- a word that is moved is the one that was given, filled up where PREQ stops at it
-pub moved_at : (o : TransferOrder) (n i w : ℕ) (g : List ℕ) → i < length (stopped o (take n g)) → w ≡ fill o (get_or g i 0) → w ≡ get_or (stopped o (take n g)) i 0
+pub moved_at : (o : TransferOrder) (n i w : ℕ) (g : List ℕ) → i < length (stopped o (take n g)) → w ≡ fill o (get_or g i 0)
+    → w ≡ get_or (stopped o (take n g)) i 0
 moved_at o n i w g lt is =
     let low : i < n = omega (arith, stopped-le o (take n g), length-take n g) in
     is ∙ ap (fill o) (sym (get_or-take n g i 0 low)) ∙ sym (stopped-at o (take n g) i lt)

@@ -1,5 +1,6 @@
 -- The words that an order moves, one by one.
-use Rattle.std.proofs.Common.{◌≡◌, ℕ, ◌+◌, ◌-◌, ◌*◌, ◌/◌, ◌<◌, ◌≤◌, ◌∷◌, ◌++◌, min, Bool, true, false, List, [], length, get_or, take, drop, map, Option, Some, None, is_some, cond, refl, sym, ap, ◌∙◌, ⊎_elim, arith, length-take, length-set, length-drop}
+use Rattle.std.proofs.Common.{◌≡◌, ℕ, ◌+◌, ◌-◌, ◌*◌, ◌/◌, ◌<◌, ◌≤◌, ◌∷◌, ◌++◌, min, Bool, true, false, List, [], length, get_or, take, drop, map, Option, Some}
+use Rattle.std.proofs.Common.{None, is_some, cond, refl, sym, ap, ◌∙◌, ⊎_elim, arith, length-take, length-set, length-drop}
 use Rattle.std.specs.List.{range_with_len, slice_get}
 use Rattle.std.specs.Option.{option_map}
 use Rattle.std.proofs.lemmas.Bool.{cases_Bool}
@@ -60,10 +61,20 @@ module _ (o : TransferOrder) (first last : ℕ) (l : Option Lent) (f : Fixture) 
   pub few_area : length offer ≤ area_len o first last
   few_area =
       ⊎_elim
-      (λ (is : is_input o ≡ true). omega (arith, ap length (input_offer is), length-take (last + 1 - first) (given o f p), len_is o first last (input_has o is)))
+      (λ (is : is_input o ≡ true). omega (
+        arith,
+        ap length (input_offer is),
+        length-take (last + 1 - first) (given o f p),
+        len_is o first last (input_has o is),
+      ))
       (λ (not : is_input o ≡ false).
       ⊎_elim
-      (λ (is : is_output o ≡ true). omega (arith, ap length (output_offer not is), length-map-range_with_len (lent_at l) first (last + 1 - first), len_is o first last (output_has o is)))
+      (λ (is : is_output o ≡ true). omega (
+        arith,
+        ap length (output_offer not is),
+        length-map-range_with_len (lent_at l) first (last + 1 - first),
+        len_is o first last (output_has o is),
+      ))
       (λ (nor : is_output o ≡ false). omega (arith, ap length (no_offer not nor)))
       (cases_Bool (is_output o)))
       (cases_Bool (is_input o))
@@ -91,14 +102,16 @@ module _ (o : TransferOrder) (first last : ℕ) (l : Option Lent) (f : Fixture) 
   -- a word that an input order is offered, and where the area ends
   pub input_at : (i : ℕ) (r : Option ℕ) → is_input o ≡ true → i < area_len o first last → r ≡ slice_get (given o f p) i → r ≡ slice_get offer i
   input_at i r is lt got =
-      got ∙ sym (cut_at (last + 1 - first) i (given o f p) (omega (arith, len_is o first last (input_has o is)))) ∙ ap (λ ws. slice_get ws i) (sym (input_offer is))
+      got ∙ sym (cut_at (last + 1 - first) i (given o f p) (omega (arith, len_is o first last (input_has o is))))
+      ∙ ap (λ ws. slice_get ws i) (sym (input_offer is))
 
   pub offer_past : (i : ℕ) → area_len o first last ≤ i → None ≡ slice_get offer i
   offer_past i past = sym (slice_get_past offer i (omega (arith, few_area)))
 
   pub output_at : (i w : ℕ) → is_input o ≡ false → is_output o ≡ true → i < last + 1 - first → w ≡ lent_at l (first + i) → Some w ≡ slice_get offer i
   output_at i w not is lt got =
-      let counted : length (map (lent_at l) (range_with_len first (last + 1 - first))) ≡ last + 1 - first = length-map-range_with_len (lent_at l) first (last + 1 - first) in
+      let counted : length (map (lent_at l) (range_with_len first (last + 1 - first))) ≡ last + 1 - first =
+      length-map-range_with_len (lent_at l) first (last + 1 - first) in
       ap Some (got ∙ sym (get_or-map-range_with_len (lent_at l) first (last + 1 - first) i (first + i) 0 lt refl))
       ∙ sym (slice_get-get_or (map (lent_at l) (range_with_len first (last + 1 - first))) i 0 (omega arith))
       ∙ ap (λ ws. slice_get ws i) (sym (output_offer not is))
@@ -128,7 +141,8 @@ covers-written true place w first last (Some l) h =
 covers-written false place w first last l h = h
 
 -- the words of the ring
-pub ring_front : (ws : List ℕ) (m w : ℕ) (rest : List ℕ) → m < length ws → take 8 (drop m ws) ≡ w ∷ rest → (w ≡ get_or ws m 0) × (rest ≡ take 7 (drop (m + 1) ws))
+pub ring_front : (ws : List ℕ) (m w : ℕ) (rest : List ℕ) → m < length ws → take 8 (drop m ws) ≡ w ∷ rest
+    → (w ≡ get_or ws m 0) × (rest ≡ take 7 (drop (m + 1) ws))
 ring_front ws m w rest lt is =
     let e : get_or ws m 0 ∷ take 7 (drop (m + 1) ws) ≡ w ∷ rest = sym (ap (take 8) (drop_more ws m 0 lt)) ∙ is in
     (cc, cc)
@@ -137,7 +151,8 @@ pub ring_more : (ws : List ℕ) (m : ℕ) → take 7 (drop (m + 1) ws) ++ take 1
 ring_more ws m = ap (λ xs. take 7 (drop (m + 1) ws) ++ take 1 xs) (sym (drop-drop 7 (m + 1) ws)) ∙ take_two 7 1 (drop (m + 1) ws)
 
 -- there is room for the codes of one word more
-pub room_more : (input : Bool) (codes : List ℕ) (ws : List ℕ) (m total room : ℕ) → codes ≡ cond input [] (codes_of_all (take m ws)) → total ≡ length ws → m < total → (input ≡ false → 8 * total ≤ room) → input ≡ false → length codes + 8 ≤ room
+pub room_more : (input : Bool) (codes : List ℕ) (ws : List ℕ) (m total room : ℕ) → codes ≡ cond input [] (codes_of_all (take m ws)) → total ≡ length ws
+    → m < total → (input ≡ false → 8 * total ≤ room) → input ≡ false → length codes + 8 ≤ room
 room_more true codes ws m total room is counted more fits not = cc
 room_more false codes ws m total room is counted more fits not =
     let size : length codes ≡ 8 * length (take m ws) = ap length is ∙ length-codes (take m ws) in
@@ -146,13 +161,15 @@ room_more false codes ws m total room is counted more fits not =
     omega arith
 
 -- the block after one word more
-pub block_more : (input : Bool) (codes codes' ws ws' : List ℕ) (m w : ℕ) → codes ≡ cond input [] (codes_of_all (take m ws)) → codes' ≡ cond input codes (codes ++ codes_of w) → m < length ws → w ≡ get_or ws m 0 → ws' ≡ ws → codes' ≡ cond input [] (codes_of_all (take (m + 1) ws'))
+pub block_more : (input : Bool) (codes codes' ws ws' : List ℕ) (m w : ℕ) → codes ≡ cond input [] (codes_of_all (take m ws))
+    → codes' ≡ cond input codes (codes ++ codes_of w) → m < length ws → w ≡ get_or ws m 0 → ws' ≡ ws → codes' ≡ cond input [] (codes_of_all (take (m + 1) ws'))
 block_more true codes codes' ws ws' m w is later lt first same = later ∙ is
 block_more false codes codes' ws ws' m w is later lt first same =
     later ∙ ap (λ xs. xs ++ codes_of w) is ∙ codes_more ws m w lt first ∙ ap (λ xs. codes_of_all (take (m + 1) xs)) (sym same)
 
 -- the codes of all words that went out are those of the block
-pub block_whole : (o : TransferOrder) (first last : ℕ) (l : Option Lent) (f : Fixture) (p : Progress) (m : ℕ) → m ≡ length (all_words o first last l f p) → cond (is_input o) [] (codes_of_all (take m (all_words o first last l f p))) ≡ codes_of_all (words_out o (area_words o first last l))
+pub block_whole : (o : TransferOrder) (first last : ℕ) (l : Option Lent) (f : Fixture) (p : Progress) (m : ℕ) → m ≡ length (all_words o first last l f p)
+    → cond (is_input o) [] (codes_of_all (take m (all_words o first last l f p))) ≡ codes_of_all (words_out o (area_words o first last l))
 unfolding all_words offered
 block_whole o first last l f p m all =
     ap (λ ws. cond (is_input o) [] (codes_of_all ws)) (take_all m (all_words o first last l f p) (omega arith))
@@ -174,7 +191,8 @@ length-ring ws m = length-take 8 (drop m ws) ∙ ap (min 8) (length-drop m ws)
 -- the device ends the same, however many words have moved
 pub ended-moved : (n : ℕ) (t : Motion) → ended_progress (moved_by n t) ≡ ended_progress t
 unfolding moved_by
-ended-moved n t = ap (λ ws. finished t.order (area_len t.order t.first t.last) (codes_of_all ws) t.fixture t.progress) (at_bool (is_input t.order) (option_map (put_words (take n (drop t.moved (moves_of t)))) t.lease))
+ended-moved n t = ap (λ ws. finished t.order (area_len t.order t.first t.last) (codes_of_all ws) t.fixture t.progress)
+    (at_bool (is_input t.order) (option_map (put_words (take n (drop t.moved (moves_of t)))) t.lease))
   where
     out : Option Lent → List ℕ
     out l = stopped t.order (cond (is_output t.order) (area_words t.order t.first t.last l) [])
@@ -193,7 +211,8 @@ some-moved true ms None = refl
 some-moved true ms (Some l) = refl
 some-moved false ms l = refl
 
-pub covers-moved : (input : Bool) (ms : List (ℕ × ℕ)) (l : Option Lent) (first last : ℕ) → Covers l first last → Covers (cond input (option_map (put_words ms) l) l) first last
+pub covers-moved : (input : Bool) (ms : List (ℕ × ℕ)) (l : Option Lent) (first last : ℕ) → Covers l first last
+    → Covers (cond input (option_map (put_words ms) l) l) first last
 covers-moved true ms None first last h = h
 covers-moved true ms (Some l) first last h = covers-put ms l first last h
 covers-moved false ms l first last h = h
@@ -214,7 +233,8 @@ no_block o ws block none = none ∙ at_bool (is_input o)
     at_bool false = refl
 
 -- there is room for all codes
-pub room_first : (o : TransferOrder) (first last total room : ℕ) (l : Option Lent) (f : Fixture) (p : Progress) → total ≡ length (all_words o first last l f p) → (is_output o ≡ true → 8 * (last + 1 - first) ≤ room) → is_input o ≡ false → 8 * total ≤ room
+pub room_first : (o : TransferOrder) (first last total room : ℕ) (l : Option Lent) (f : Fixture) (p : Progress) → total ≡ length (all_words o first last l f p)
+    → (is_output o ≡ true → 8 * (last + 1 - first) ≤ room) → is_input o ≡ false → 8 * total ≤ room
 room_first o first last total room l f p counted fits not =
     ⊎_elim
     (λ (is : is_output o ≡ true). let enough = fits is in omega (arith, few_words o first last l f p))

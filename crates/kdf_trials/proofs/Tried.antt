@@ -16,19 +16,22 @@ use Rattle.kdf_theory.specs.Loading.{slots_of}
 use Rattle.kdf_theory.specs.Slots.{NoneServed}
 
 -- each of the slots is well formed
-pub slot_at : (j : ReadJob) (k : ℕ) (s : ReadSlot) → IsJob (shown_job j) → k < length j.slots.items → s ≡ slice_index_or j.slots.items k s → IsSlot (shown_slot s)
+pub slot_at : (j : ReadJob) (k : ℕ) (s : ReadSlot) → IsJob (shown_job j) → k < length j.slots.items → s ≡ slice_index_or j.slots.items k s
+    → IsSlot (shown_slot s)
 slot_at j k s is inside at =
     let there : k < length (map shown_slot j.slots.items) = omega (arith, length-map j.slots.items shown_slot) in
     subst IsSlot (get_or-map shown_slot j.slots.items k s (shown_slot s) inside ∙ ap shown_slot (sym at)) (is.slots.each k (shown_slot s) there)
 
-pub apart_at : (j : ReadJob) (k : ℕ) (s : ReadSlot) → IsJob (shown_job j) → k < length j.slots.items → s ≡ slice_index_or j.slots.items k s → IsApart (shown_slot s)
+pub apart_at : (j : ReadJob) (k : ℕ) (s : ReadSlot) → IsJob (shown_job j) → k < length j.slots.items → s ≡ slice_index_or j.slots.items k s
+    → IsApart (shown_slot s)
 apart_at j k s is inside at =
     let slots : List SlotJob = map shown_slot j.slots.items in
     let there : k < length slots = omega (arith, length-map j.slots.items shown_slot) in
     subst IsApart (get_or-map shown_slot j.slots.items k s (shown_slot s) inside ∙ ap shown_slot (sym at)) (slot_apart slots k (shown_slot s) there is.slots)
 
 -- slots of which none is served are shown so
-pub shown_unserved : (slots : List ReadSlot) → All (λ (slot : ReadSlot). slot.served ≡ false) slots → All (λ (slot : SlotJob). slot.served ≡ false) (map shown_slot slots)
+pub shown_unserved : (slots : List ReadSlot) → All (λ (slot : ReadSlot). slot.served ≡ false) slots
+    → All (λ (slot : SlotJob). slot.served ≡ false) (map shown_slot slots)
 shown_unserved [] all k d lt = absurd (omega arith)
 shown_unserved (slot ∷ slots) all zero d lt = all 0 slot (omega arith)
 shown_unserved (slot ∷ slots) all (suc k) d lt = shown_unserved slots (λ j e l. all (suc j) e (omega arith)) k d (omega arith)

@@ -32,7 +32,8 @@ first-bad : (m n : ℕ) (bytes : List ℕ) → m < n
     → lesser (Some (found BadByte m)) (option_map (found BadByte) (position_from is_bad n bytes)) ≡ Some (found BadByte m)
 first-bad m n [] lt = refl
 first-bad m n (b ∷ bytes) lt =
-    elim (is_bad b) as (λ t. lesser (Some (found BadByte m)) (option_map (found BadByte) (cond t (Some n) (position_from is_bad (n + 1) bytes))) ≡ Some (found BadByte m)) [
+    elim (is_bad b) as (λ t. lesser (Some (found BadByte m)) (option_map (found BadByte) (cond t (Some n) (position_from is_bad (n + 1) bytes)))
+    ≡ Some (found BadByte m)) [
       | true ↦ stays-first m n lt
       | false ↦ first-bad m (n + 1) bytes (omega arith)
     ]
@@ -40,7 +41,8 @@ first-bad m n (b ∷ bytes) lt =
 least-from : (at : ℕ) (bytes : List ℕ) → least (bytes_faults at bytes) ≡ option_map (found BadByte) (position_from is_bad at bytes)
 least-from at [] = refl
 least-from at (b ∷ bytes) =
-    elim (is_deck_byte b) as (λ t. least (cond t [] (found BadByte at ∷ []) ++ bytes_faults (at + 1) bytes) ≡ option_map (found BadByte) (cond (not t) (Some at) (position_from is_bad (at + 1) bytes))) [
+    elim (is_deck_byte b) as (λ t. least (cond t [] (found BadByte at ∷ []) ++ bytes_faults (at + 1) bytes) ≡ option_map (found BadByte)
+    (cond (not t) (Some at) (position_from is_bad (at + 1) bytes))) [
       | true ↦ least-from (at + 1) bytes
       | false ↦ ap (lesser (Some (found BadByte at))) (least-from (at + 1) bytes) ∙ first-bad at (at + 1) bytes (omega arith)
     ]

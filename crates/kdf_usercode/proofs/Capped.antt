@@ -196,7 +196,8 @@ access-capped : (direction : Direction) (name : StoreName) (suffix : Suffix) (ns
     → range_faults (access_ranges name suffix) ns ≡ []
     → access_of direction name suffix (map capped ns) ≡ access_of direction name suffix ns
 access-capped direction name suffix ns r =
-    ap (λ (x : Named). done direction x (q_of name suffix (map capped ns)) (is_stepped suffix)) (named-capped name ns (ranges-apart (store_ranges name) (suffix_ranges suffix) ns r).0)
+    ap (λ (x : Named). done direction x (q_of name suffix (map capped ns)) (is_stepped suffix))
+    (named-capped name ns (ranges-apart (store_ranges name) (suffix_ranges suffix) ns r).0)
     ∙ ap (λ (q : ℕ). done direction (named_of name ns) q (is_stepped suffix)) (q-capped name suffix ns r)
 
 store-capped : (stage : Stage) (direction : Direction) (name : StoreName) (suffix : Suffix) (ns : List ℕ)
@@ -204,7 +205,8 @@ store-capped : (stage : Stage) (direction : Direction) (name : StoreName) (suffi
     → store_of stage direction name suffix (map capped ns) ≡ store_of stage direction name suffix ns
 store-capped stage direction name suffix ns r =
     let group = declared_group direction name suffix in
-    ap (λ (n : ℕ). declared_or stage group n (access_of direction name suffix (map capped ns))) (first-of-name name ns (ranges-apart (store_ranges name) (suffix_ranges suffix) ns r).0)
+    ap (λ (n : ℕ). declared_or stage group n (access_of direction name suffix (map capped ns)))
+    (first-of-name name ns (ranges-apart (store_ranges name) (suffix_ranges suffix) ns r).0)
     ∙ ap (λ (what : What). declared_or stage group (slice_index ns 0) what) (access-capped direction name suffix ns r)
 
 -- ---- jumps
@@ -294,7 +296,8 @@ triple-capped c i m ns r =
     let two : item_of i (behind_item c (map capped ns)) ≡ item_of i (behind_item c ns)
     = ap (item_of i) behind_c ∙ item-capped i (behind_item c ns) b.0 in
     let three : item_of m (behind_item i (behind_item c (map capped ns))) ≡ item_of m (behind_item i (behind_item c ns))
-    = ap (λ x. item_of m (behind_item i x)) behind_c ∙ ap (item_of m) (behind-item-capped i (behind_item c ns)) ∙ item-capped m (behind_item i (behind_item c ns)) b.1 in
+    = ap (λ x. item_of m (behind_item i x)) behind_c ∙ ap (item_of m) (behind-item-capped i (behind_item c ns))
+    ∙ item-capped m (behind_item i (behind_item c ns)) b.1 in
     cc
 
 value-capped : (form : ValueForm) (ns text : List ℕ) → range_faults (value_ranges form) ns ≡ []

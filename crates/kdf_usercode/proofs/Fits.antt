@@ -38,7 +38,8 @@ use Rattle.kdf_usercode.specs.Characters.{or_zero, code_at, half, characters_wor
 use Rattle.kdf_usercode.specs.Orders.{left_range, right_range, exit_range, up_range, octal_set_range, order_ranges, octal_order_faults, order_of}
 use Rattle.kdf_usercode.specs.Stores.{store_ranges, suffix_ranges, access_ranges, named_of, behind_name, q_of, is_stepped, done, access_of}
 use Rattle.kdf_usercode.specs.Jumps.{target_ranges, test_ranges, jump_ranges, target_of, behind_target, jump_code, go_of}
-use Rattle.kdf_usercode.specs.Constants.{word_up_range, octal_word_range, bits_up_range, item_ranges, value_ranges, text_value_faults, item_of, behind_item, triple_of, value_of}
+use Rattle.kdf_usercode.specs.Constants.{word_up_range, octal_word_range, bits_up_range, item_ranges, value_ranges, text_value_faults, item_of, behind_item}
+use Rattle.kdf_usercode.specs.Constants.{triple_of, value_of}
 use Rattle.kdf_usercode.specs.Forms.{ranges_of, text_faults, store_of, what_of}
 use Rattle.kdf_usercode.specs.WellFormed.{IsNamed, IsAddressed, IsItem, IsValue, IsTarget, StandsAlone, IsWhat}
 use Rattle.kdf_usercode.proofs.Ranges.{ranges-apart}

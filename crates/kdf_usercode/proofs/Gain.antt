@@ -76,7 +76,8 @@ reads-capped old new place form ns text h =
       best = best;
       statements = λ none. h.statements none
           ∙ ap (λ (what : What). old.statements.items ++ record { place = place; what = what } ∷ [])
-          (what-capped old.phase.stage form ns text (none-out old.best new.best place (range_faults (ranges_of form) ns) (text_faults form text) (cond (is_in_place old.phase form) [] (BadHeading ∷ [])) best none));
+          (what-capped old.phase.stage form ns text (none-out old.best new.best place (range_faults (ranges_of form) ns) (text_faults form text)
+          (cond (is_in_place old.phase form) [] (BadHeading ∷ [])) best none));
     }
 
 -- faults of two kinds at one place, one after the other

@@ -28,7 +28,8 @@ use Rattle.kdf_usercode.specs.OrderNames.{order_names}
 use Rattle.kdf_usercode.specs.Orders.{octal_order, order_form}
 use Rattle.kdf_usercode.specs.Stores.{letter_after, lettered, store_name, not_e, addressed, suffix_of, direction_of, access_form, address_form}
 use Rattle.kdf_usercode.specs.Jumps.{conditions, condition_of, target_form, subroutine_form, test_form, jump_form}
-use Rattle.kdf_usercode.specs.Constants.{value_names, address_item, number_item, item_behind, item_form, triple_form, octal_value, characters_value, value_form, constant_form}
+use Rattle.kdf_usercode.specs.Constants.{value_names, address_item, number_item, item_behind, item_form, triple_form, octal_value, characters_value, value_form}
+use Rattle.kdf_usercode.specs.Constants.{constant_form}
 use Rattle.kdf_usercode.specs.Forms.{statement_names, form_in}
 use Rattle.kdf_usercode.proofs.Optional.{Holds, holds-any, holds-or, holds-map, holds-bind, holds-if, holds-row}
 
@@ -213,7 +214,8 @@ number-item shape =
     let down = opt_map (λ (rest : List ℕ). (items.Down, rest)) (strip (codes "-0") shape) in
     let up = opt_map (λ (rest : List ℕ). (items.Up, rest)) (strip (codes "+0") shape) in
     let plain = opt_map (λ (rest : List ℕ). (items.Up, rest)) (strip (codes "0") shape) in
-    holds-or ItemHas (down or up) plain (holds-or ItemHas down up (number items.Down (codes "-0") shape tt) (number items.Up (codes "+0") shape tt)) (number items.Up (codes "0") shape tt)
+    holds-or ItemHas (down or up) plain (holds-or ItemHas down up (number items.Down (codes "-0") shape tt) (number items.Up (codes "+0") shape tt))
+    (number items.Up (codes "0") shape tt)
 
 item-behind : (shape : List ℕ) (o : Option (List ℕ)) → Holds ItemHas (item_behind shape o)
 item-behind shape None = number-item shape
@@ -339,4 +341,5 @@ form-in shape text =
     (holds-map IsValueForm IsForm (λ value. forms.Constant value) (constant_form shape text) (constant-form shape text) (λ x h. h)))
     (holds-map JumpHas IsForm (λ (jump : Test × TargetForm). forms.Go jump.0 jump.1) (jump_form shape) (jump-form shape) (λ x h. h)))
     (holds-map IsAddressedName IsForm (λ name. forms.SetAddress name) (address_form shape) (address-form shape) (λ x h. h)))
-    (holds-map AccessHas IsForm (λ (access : Direction × StoreName × Suffix). forms.Access access.0 access.1 access.2) (access_form shape) (access-form shape) (λ x h. h))
+    (holds-map AccessHas IsForm (λ (access : Direction × StoreName × Suffix). forms.Access access.0 access.1 access.2) (access_form shape) (access-form shape)
+    (λ x h. h))

@@ -32,16 +32,19 @@ outcome-statement old new w len front ws tail h =
     let later = faults_from (phase_after old.phase w) len ws tail in
     let more = statements_from (phase_after old.phase w) ws in
     let here = old.statements.items ++ (statements_of old.phase w ++ more) in
-    let step1 : outcome new.phase new.best new.statements.items len front ws tail ≡ verdict (lesser new.best (least (front ++ later))) (new.statements.items ++ more)
+    let step1 : outcome new.phase new.best new.statements.items len front ws tail ≡ verdict (lesser new.best (least (front ++ later)))
+    (new.statements.items ++ more)
     = rw h.phase refl in
     let step2 : verdict (lesser new.best (least (front ++ later))) (new.statements.items ++ more) ≡ verdict (lesser new.best (least (front ++ later))) here
-    = same-verdict new.best (least (front ++ later)) (new.statements.items ++ more) here (λ none. ap (λ x. x ++ more) (h.statements none) ∙ append_assoc old.statements.items (statements_of old.phase w) more) in
+    = same-verdict new.best (least (front ++ later)) (new.statements.items ++ more) here (λ none. ap (λ x. x ++ more) (h.statements none)
+    ∙ append_assoc old.statements.items (statements_of old.phase w) more) in
     let step3 : verdict (lesser new.best (least (front ++ later))) here ≡ outcome old.phase old.best old.statements.items len front (w ∷ ws) tail
     = ap (λ o. verdict o here) (ap (λ o. lesser o (least (front ++ later))) h.best ∙ least-between old.best front (statement_faults old.phase w) later) in
     step1 ∙ step2 ∙ step3
 
 -- one byte more was looked at
-pub outcome-byte : (phase : Phase) (best : Option Found) (ss : List Statement) (len : ℕ) (here front : List Found) (ws : List Parsed) (tail : List ByteAt) (best' : Option Found)
+pub outcome-byte : (phase : Phase) (best : Option Found) (ss : List Statement) (len : ℕ) (here front : List Found) (ws : List Parsed) (tail : List ByteAt)
+    (best' : Option Found)
     → best' ≡ lesser best (least here)
     → outcome phase best' ss len front ws tail ≡ outcome phase best ss len (here ++ front) ws tail
 outcome-byte phase best ss len here front ws tail best' b =
@@ -63,7 +66,8 @@ with_ahead-byte r best' here piece len bad ahead b =
     ∙ ap (λ x. outcome r.phase r.best r.statements.items len x (parses c) c.tail) (sym (append_assoc here bad opened))
 
 -- a comment that isn't closed is found before the bytes ahead
-pub outcome-comment : (phase : Phase) (best : Option Found) (ss : List Statement) (len : ℕ) (k : ByteAt) (bad : List Found) (ahead : List ByteAt) (ws : List Parsed) (tail : List ByteAt) (best' : Option Found)
+pub outcome-comment : (phase : Phase) (best : Option Found) (ss : List Statement) (len : ℕ) (k : ByteAt) (bad : List Found) (ahead : List ByteAt)
+    (ws : List Parsed) (tail : List ByteAt) (best' : Option Found)
     → best' ≡ lesser best (least (comment_faults k))
     → outcome phase best' ss len (bad ++ flat_map comment_faults ahead) ws tail ≡ outcome phase best ss len (bad ++ flat_map comment_faults (k ∷ ahead)) ws tail
 outcome-comment phase best ss len k bad ahead ws tail best' b =
@@ -104,7 +108,8 @@ pub with_ahead-push : (r : Reading) (piece : List ByteAt) (k : ByteAt) (best' : 
     → with_ahead (record r { best = best' }) (piece ++ k ∷ []) len bad ahead ≡ with_ahead r piece len bad (k ∷ ahead)
 with_ahead-push r piece k best' len bad ahead b ne =
     let c = in_front piece (cut_before k (cut ahead)) in
-    ap (λ (x : Cut). outcome r.phase best' r.statements.items len (bad ++ flat_map comment_faults ahead) (parses x) x.tail) (in_front-push piece k (cut ahead) (ne_eqb k.byte 59 ne))
+    ap (λ (x : Cut). outcome r.phase best' r.statements.items len (bad ++ flat_map comment_faults ahead) (parses x) x.tail)
+    (in_front-push piece k (cut ahead) (ne_eqb k.byte 59 ne))
     ∙ outcome-comment r.phase r.best r.statements.items len k bad ahead (parses c) c.tail best' b
 
 -- what comes of a deck of which only the bytes were looked at

@@ -1,5 +1,6 @@
 -- The ranges of the numbers, one after the other.
-use Rattle.std.proofs.Common.{◌≡◌, ℕ, suc, append_assoc, arith, ◌+◌, ◌<◌, length, get_or, drop, List, [], ◌∷◌, ◌++◌, Option, slice_index, add-zero, refl, sym, ap, ◌∙◌}
+use Rattle.std.proofs.Common.{◌≡◌, ℕ, suc, append_assoc, arith, ◌+◌, ◌<◌, length, get_or, drop, List, [], ◌∷◌, ◌++◌, Option, slice_index, add-zero, refl, sym}
+use Rattle.std.proofs.Common.{ap, ◌∙◌}
 use Rattle.std.proofs.lemmas.List.{at_drop_more, map-append, get_or-drop, drop-drop}
 use Rattle.kdf_usercode.specs.declared.fault.DeckFault.{DeckFault}
 use Rattle.kdf_usercode.specs.declared.range.Range.{Range}
@@ -10,7 +11,8 @@ use Rattle.kdf_usercode.proofs.Least.{least-front}
 pub ranges-step : (best best' : Option Found) (place i n : ℕ) (rs : List Range) (ns : List ℕ) (d : Range)
     → i < length rs → n ≡ get_or ns i 0
     → best' ≡ lesser best (least (founds place (range_fault (get_or rs i d) n)))
-    → lesser best' (least (founds place (range_faults (drop (i + 1) rs) (drop (i + 1) ns)))) ≡ lesser best (least (founds place (range_faults (drop i rs) (drop i ns))))
+    → lesser best' (least (founds place (range_faults (drop (i + 1) rs) (drop (i + 1) ns)))) ≡ lesser best
+    (least (founds place (range_faults (drop i rs) (drop i ns))))
 ranges-step best best' place i n rs ns d lt e b =
     let r = get_or rs i d in
     let later = range_faults (drop (i + 1) rs) (drop (i + 1) ns) in
@@ -46,10 +48,12 @@ ranges-apart a b ns e =
 
 -- the faults of two parts, one after the other
 pub ranges-then : (best : Option Found) (place : ℕ) (a b : List Range) (ns : List ℕ)
-    → lesser (lesser best (least (founds place (range_faults a ns)))) (least (founds place (range_faults b (drop (length a) ns)))) ≡ lesser best (least (founds place (range_faults (a ++ b) ns)))
+    → lesser (lesser best (least (founds place (range_faults a ns)))) (least (founds place (range_faults b (drop (length a) ns)))) ≡ lesser best
+    (least (founds place (range_faults (a ++ b) ns)))
 ranges-then best place a b ns =
     least-front best (founds place (range_faults a ns)) (founds place (range_faults b (drop (length a) ns)))
-    ∙ ap (λ x. lesser best (least x)) (sym (map-append _ (range_faults a ns) (range_faults b (drop (length a) ns))) ∙ ap (founds place) (sym (range_faults-append a b ns)))
+    ∙ ap (λ x. lesser best (least x)) (sym (map-append _ (range_faults a ns) (range_faults b (drop (length a) ns)))
+    ∙ ap (founds place) (sym (range_faults-append a b ns)))
 
 pub three-parts : (best first second third : Option Found) (place : ℕ) (a b c : List Range) (ns ms ls : List ℕ)
     → first ≡ lesser best (least (founds place (range_faults a ns))) → ms ≡ drop (length a) ns
@@ -57,8 +61,10 @@ pub three-parts : (best first second third : Option Found) (place : ℕ) (a b c 
     → third ≡ lesser second (least (founds place (range_faults c ls)))
     → third ≡ lesser best (least (founds place (range_faults (a ++ (b ++ c)) ns)))
 three-parts best first second third place a b c ns ms ls f m s l t =
-    let one : lesser second (least (founds place (range_faults c ls))) ≡ lesser first (least (founds place (range_faults (b ++ c) ms))) = rw (s, l) (ranges-then first place b c ms) in
-    let two : lesser first (least (founds place (range_faults (b ++ c) ms))) ≡ lesser best (least (founds place (range_faults (a ++ (b ++ c)) ns))) = rw (f, m) (ranges-then best place a (b ++ c) ns) in
+    let one : lesser second (least (founds place (range_faults c ls))) ≡ lesser first (least (founds place (range_faults (b ++ c) ms))) =
+    rw (s, l) (ranges-then first place b c ms) in
+    let two : lesser first (least (founds place (range_faults (b ++ c) ms))) ≡ lesser best (least (founds place (range_faults (a ++ (b ++ c)) ns))) =
+    rw (f, m) (ranges-then best place a (b ++ c) ns) in
     t ∙ one ∙ two
 
 pub one-more : (best first : Option Found) (place n : ℕ) (r : Range) (rs : List Range) (ns ms : List ℕ) (result : Option Found)

@@ -1,5 +1,6 @@
 -- The places of the statements of a deck rise, and are below its length.
-use Rattle.std.proofs.Common.{◌≡◌, ℕ, ◌+◌, ◌<◌, ◌≤◌, length, Bool, true, false, cond, eqb, List, [], ◌∷◌, ◌++◌, Some, None, refl, sym, subst, append_assoc, arith}
+use Rattle.std.proofs.Common.{◌≡◌, ℕ, ◌+◌, ◌<◌, ◌≤◌, length, Bool, true, false, cond, eqb, List, [], ◌∷◌, ◌++◌, Some, None, refl, sym, subst, append_assoc}
+use Rattle.std.proofs.Common.{arith}
 use Rattle.kdf_usercode.specs.declared.bytes.ByteAt.{ByteAt}
 use Rattle.kdf_usercode.specs.declared.phase.Phase.{Phase}
 use Rattle.kdf_usercode.specs.Phase.{start}
@@ -68,7 +69,8 @@ cut-rise low high [] h = tt
 cut-rise low high (k ∷ ks) h =
     let c = cut ks in
     let rest = cut-rise (k.at + 1) high ks h.2 in
-    elim (eqb k.byte 59) as (λ b. BytesRise low (joined (cond b (record { pieces = [] ∷ c.pieces; tail = c.tail }) (in_front (k ∷ []) c)).pieces (cond b (record { pieces = [] ∷ c.pieces; tail = c.tail }) (in_front (k ∷ []) c)).tail) high) [
+    elim (eqb k.byte 59) as (λ b. BytesRise low (joined (cond b (record { pieces = [] ∷ c.pieces; tail = c.tail }) (in_front (k ∷ []) c)).pieces
+    (cond b (record { pieces = [] ∷ c.pieces; tail = c.tail }) (in_front (k ∷ []) c)).tail) high) [
       | true ↦ bytes-lower (k.at + 1) low high (joined c.pieces c.tail) (omega (arith, h.0)) rest
       | false ↦ subst (λ (x : List ByteAt). BytesRise low x high) (sym (onto-joined (k ∷ []) c.pieces c.tail)) (h.0, h.1, rest)
     ]

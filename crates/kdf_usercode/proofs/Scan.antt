@@ -1,5 +1,6 @@
 -- What stays of a deck, as the reader goes past a byte or a comment.
-use Rattle.std.proofs.Common.{◌≡◌, ℕ, zero, suc, ◌+◌, ◌<◌, length, get_or, drop, Bool, true, false, not, ◌&&◌, ◌||◌, cond, eqb, nat_lt, List, [], ◌∷◌, Some, None, is_some, refl, sym, ap, ◌∙◌, subst, ⊎_elim, arith}
+use Rattle.std.proofs.Common.{◌≡◌, ℕ, zero, suc, ◌+◌, ◌<◌, length, get_or, drop, Bool, true, false, not, ◌&&◌, ◌||◌, cond, eqb, nat_lt, List, [], ◌∷◌, Some}
+use Rattle.std.proofs.Common.{None, is_some, refl, sym, ap, ◌∙◌, subst, ⊎_elim, arith}
 use Rattle.std.specs.List.{position, position_from, position_or_len}
 use Rattle.std.proofs.lemmas.Bool.{cases_Bool}
 use Rattle.std.proofs.lemmas.Iterator.Adapters.{position_from-zero}
@@ -72,7 +73,8 @@ pub comment-gone : (at end : ℕ) (bytes : List ℕ) → 0 < length bytes → ge
     → kept_from false at bytes ≡ kept_from false (at + (end + 1)) (drop (end + 1) bytes)
 comment-gone at end [] some e found = absurd (omega arith)
 comment-gone at end (b ∷ bytes) some e found =
-    let P : ℕ → Type 0 = λ b. position is_closing (b ∷ bytes) ≡ Some end → kept_from false at (b ∷ bytes) ≡ kept_from false (at + (end + 1)) (drop (end + 1) (b ∷ bytes)) in
+    let P : ℕ → Type 0 = λ b. position is_closing (b ∷ bytes) ≡ Some end → kept_from false at (b ∷ bytes) ≡ kept_from false (at + (end + 1))
+    (drop (end + 1) (b ∷ bytes)) in
     subst P (sym e) (comment-at at end bytes) found
 
 and-or : (x y z : Bool) → (x && (y || z)) ≡ false → (x && z) ≡ false

@@ -1,5 +1,6 @@
 -- A deck without a fault has its statements in their sequence, with all fields in range.
-use Rattle.std.proofs.Common.{◌≡◌, ℕ, ◌<◌, length, Bool, true, false, not, cond, eqb, List, [], ◌∷◌, ◌++◌, get_or, set, Option, Some, None, refl, sym, ap, subst, ◌∙◌, arith, inl, inr, zero, suc}
+use Rattle.std.proofs.Common.{◌≡◌, ℕ, ◌<◌, length, Bool, true, false, not, cond, eqb, List, [], ◌∷◌, ◌++◌, get_or, set, Option, Some, None, refl, sym, ap}
+use Rattle.std.proofs.Common.{subst, ◌∙◌, arith, inl, inr, zero, suc}
 use Rattle.std.proofs.lemmas.List.{length-set, get_or-set_same}
 use Rattle.std.specs.Prelude.{◌≢◌, ◌⊎◌}
 use Rattle.std.specs.List.{flat_map}
@@ -229,7 +230,8 @@ store-declares : (stage : Stage) (declared : List Bool) (direction : Direction) 
 store-declares Heading declared Fetch (names.Y group) suffixes.Nothing ns g len h e d =
     let same : group ≡ g = cc in
     let lt : group < length declared = omega (arith, h) in
-    subst (λ (x : ℕ). Declares declared (set declared group true) x) same (record { fresh = not-false (get_or declared group false) e; later = get_or-set_same declared group true false lt })
+    subst (λ (x : ℕ). Declares declared (set declared group true) x) same
+    (record { fresh = not-false (get_or declared group false) e; later = get_or-set_same declared group true false lt })
 store-declares Heading declared Fetch (names.Y group) suffixes.M ns g len h e d = absurd cc
 store-declares Heading declared Fetch (names.Y group) suffixes.MQ ns g len h e d = absurd cc
 store-declares Heading declared Fetch names.V suffix ns g len h e d = absurd cc
@@ -290,7 +292,8 @@ record Goes (phase : Phase) (len : ℕ) (w : Parsed) (ws : List Parsed) (tail : 
   pub here : Sound phase w form
   pub is : IsForm form
   pub later : faults_from (phase_with phase form) len ws tail ≡ []
-  pub statements : statements_from phase (w ∷ ws) ≡ record { place = w.place; what = what_of phase.stage form w.numbers w.text } ∷ statements_from (phase_with phase form) ws
+  pub statements : statements_from phase (w ∷ ws) ≡ record { place = w.place; what = what_of phase.stage form w.numbers w.text } ∷ statements_from
+      (phase_with phase form) ws
 
 goes : (phase : Phase) (len : ℕ) (w : Parsed) (ws : List Parsed) (tail : List ByteAt) → Holds IsForm w.form
     → faults_from phase len (w ∷ ws) tail ≡ [] → Goes phase len w ws tail
@@ -303,7 +306,8 @@ goes phase len w ws tail f e =
       here = s.1;
       is = holds-found IsForm w.form s.0 f s.1.is_form;
       later = ap (λ (p : Phase). faults_from p len ws tail) (sym next) ∙ n.1;
-      statements = ap (λ (ss : List Statement). ss ++ statements_from (phase_after phase w) ws) (one-statement phase w s.0 s.1) ∙ ap (λ (p : Phase). record { place = w.place; what = what_of phase.stage s.0 w.numbers w.text } ∷ statements_from p ws) next;
+      statements = ap (λ (ss : List Statement). ss ++ statements_from (phase_after phase w) ws) (one-statement phase w s.0 s.1)
+          ∙ ap (λ (p : Phase). record { place = w.place; what = what_of phase.stage s.0 w.numbers w.text } ∷ statements_from p ws) next;
     }
 
 pub are-in-range : (phase : Phase) (len : ℕ) (ws : List Parsed) (tail : List ByteAt) → AreForms ws
@@ -324,8 +328,11 @@ pub is-sequence : (phase : Phase) (len : ℕ) (ws : List Parsed) (tail : List By
 is-sequence phase len [] tail f e = end-sound (is_ended phase) _ _ _ e
 is-sequence phase len (w ∷ ws) tail f e =
     let g = goes phase len w ws tail f.0 e in
-    subst (IsSequence phase.stage) (sym g.statements)
-    (stage_with phase.stage g.form, stage-follows phase.stage phase.declared g.form w.numbers w.text g.here.goes g.here.placed, is-sequence (phase_with phase g.form) len ws tail f.1 g.later)
+    subst (IsSequence phase.stage) (sym g.statements) (
+      stage_with phase.stage g.form,
+      stage-follows phase.stage phase.declared g.form w.numbers w.text g.here.goes g.here.placed,
+      is-sequence (phase_with phase g.form) len ws tail f.1 g.later,
+    )
 
 -- a group that is declared isn't declared again
 none-again : (phase : Phase) (len : ℕ) (ws : List Parsed) (tail : List ByteAt) (g : ℕ) → AreForms ws
@@ -353,6 +360,7 @@ declare-once phase len (w ∷ ws) tail f l e =
     let next = same-length phase.declared s.form ∙ l in
     subst DeclareOnce (sym s.statements) (
       behind-group (group_of (what_of phase.stage s.form w.numbers w.text)) (statements_from (phase_with phase s.form) ws)
-          (λ g same. none-again (phase_with phase s.form) len ws tail g f.1 next (form-declares phase.stage phase.declared s.form w.numbers w.text g l s.is s.here.placed same).later s.later),
+          (λ g same. none-again (phase_with phase s.form) len ws tail g f.1 next
+          (form-declares phase.stage phase.declared s.form w.numbers w.text g l s.is s.here.placed same).later s.later),
       declare-once (phase_with phase s.form) len ws tail f.1 next s.later,
     )

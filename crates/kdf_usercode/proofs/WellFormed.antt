@@ -21,7 +21,8 @@ use Rattle.kdf_usercode.proofs.Sequence.{none-there, pieces-forms, are-in-range,
 no-faults : (text : List ℕ) → early text ≡ None
     → faults_from start (length text) (parses (cut (kept text))) (cut (kept text)).tail ≡ []
 no-faults text e =
-    (none-there (bytes_faults 0 text ++ flat_map comment_faults (kept text)) (faults_from start (length text) (parses (cut (kept text))) (cut (kept text)).tail) (least-none (faults_of text) e)).1
+    (none-there (bytes_faults 0 text ++ flat_map comment_faults (kept text))
+    (faults_from start (length text) (parses (cut (kept text))) (cut (kept text)).tail) (least-none (faults_of text) e)).1
 
 begins-sequence : (text : List ℕ) → early text ≡ None → IsSequence Heading (statements text)
 unfolding start
@@ -52,5 +53,6 @@ pub gives-well-formed : (result : Result Deck DeckError) (text : List ℕ) → l
     → Gives result (length text) (deck text) → IfOk result IsWellFormed
 gives-well-formed (Ok d) text short h =
     let v = ok-verdict (early text) (statements text) d.statements.items h.0 in
-    subst (λ (n : ℕ). AreWellFormed d.statements.items n) (sym h.1) (subst (λ (ss : List Statement). AreWellFormed ss (length text)) v.1 (are-well-formed text short v.0))
+    subst (λ (n : ℕ). AreWellFormed d.statements.items n) (sym h.1)
+    (subst (λ (ss : List Statement). AreWellFormed ss (length text)) v.1 (are-well-formed text short v.0))
 gives-well-formed (Err e) text short h = tt

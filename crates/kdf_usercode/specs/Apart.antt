@@ -1,7 +1,9 @@
 -- Each fault of a deck has a number of its own, as `Numbered` wants it shown.
 use Rattle.std.proofs.Common.{◌≡◌, ℕ, List, [], ◌∷◌, get_or, refl, sym, ap, ◌∙◌}
 use Rattle.kdf_usercode.specs.declared.fault.DeckFault.{DeckFault}
-use Rattle.kdf_usercode.specs.declared.fault.DeckFault.TheVariants.{BadByte, CommentOpen, NoSemicolon, UnknownOrder, Floating, BadNumber, QRange, ConstantRange, BadHeading, NoFinish, AfterFinish, ReferenceTwice, ReferenceMissing, PartTwice, PartMissing, VRange, YRange, ShortLoopFar, TooLarge}
+use Rattle.kdf_usercode.specs.declared.fault.DeckFault.TheVariants.{BadByte, CommentOpen, NoSemicolon, UnknownOrder, Floating, BadNumber, QRange, ConstantRange}
+use Rattle.kdf_usercode.specs.declared.fault.DeckFault.TheVariants.{BadHeading, NoFinish, AfterFinish, ReferenceTwice, ReferenceMissing, PartTwice, PartMissing}
+use Rattle.kdf_usercode.specs.declared.fault.DeckFault.TheVariants.{VRange, YRange, ShortLoopFar, TooLarge}
 use Rattle.kdf_usercode.specs.Faults.{number_of}
 
 -- the faults in the order of their numbers

@@ -4,7 +4,9 @@ use lib.Chars.{codes}
 use Rattle.kdf_fault.specs.declared.found.Found.{Found as FoundOf}
 use Rattle.kdf_fault.specs.Faults as faults_in
 use Rattle.kdf_usercode.specs.declared.fault.DeckFault.{DeckFault}
-use Rattle.kdf_usercode.specs.declared.fault.DeckFault.TheVariants.{BadByte, CommentOpen, NoSemicolon, UnknownOrder, Floating, BadNumber, QRange, ConstantRange, BadHeading, NoFinish, AfterFinish, ReferenceTwice, ReferenceMissing, PartTwice, PartMissing, VRange, YRange, ShortLoopFar, TooLarge}
+use Rattle.kdf_usercode.specs.declared.fault.DeckFault.TheVariants.{BadByte, CommentOpen, NoSemicolon, UnknownOrder, Floating, BadNumber, QRange, ConstantRange}
+use Rattle.kdf_usercode.specs.declared.fault.DeckFault.TheVariants.{BadHeading, NoFinish, AfterFinish, ReferenceTwice, ReferenceMissing, PartTwice, PartMissing}
+use Rattle.kdf_usercode.specs.declared.fault.DeckFault.TheVariants.{VRange, YRange, ShortLoopFar, TooLarge}
 
 -- a fault of a deck at its place
 abbrev pub Found : Type 0

@@ -12,7 +12,8 @@ use Rattle.kdf_usercode.specs.declared.stores.Direction.{Direction}
 use Rattle.kdf_usercode.specs.declared.stores.StoreName.{StoreName}
 use Rattle.kdf_usercode.specs.declared.stores.Suffix.{Suffix}
 use Rattle.kdf_usercode.specs.declared.forms.Form.{Form}
-use Rattle.kdf_usercode.specs.declared.forms.Form.TheVariants.{Program, ProgramStores, Part, PartStores, Finish, Star, Reference, Short, Plain, Constant, Go, Access, SetAddress}
+use Rattle.kdf_usercode.specs.declared.forms.Form.TheVariants.{Program, ProgramStores, Part, PartStores, Finish, Star, Reference, Short, Plain, Constant, Go}
+use Rattle.kdf_usercode.specs.declared.forms.Form.TheVariants.{Access, SetAddress}
 use Rattle.kdf_usercode.specs.Parse.{◌or◌, opt_map, row_in}
 use Rattle.kdf_usercode.specs.Range.{q_range, reference_range, opened_range, store_range}
 use Rattle.kdf_usercode.specs.Orders.{order_form, order_ranges, octal_order_faults, order_of}

@@ -4,7 +4,8 @@ use lib.Chars.{codes}
 use Rattle.kdf_usercode.specs.declared.fault.DeckFault.{DeckFault}
 use Rattle.kdf_usercode.specs.declared.fault.DeckFault.TheVariants.{Floating}
 use Rattle.kdf_usercode.specs.declared.order_names.OrderForm.{OrderForm}
-use Rattle.kdf_usercode.specs.declared.order_names.OrderForm.TheVariants.{Plain, Indirect, Single, Copies, ShiftUp, ShiftDown, ShiftCount, Device, Query, ExitNone, Exit, SetUp, SetDown}
+use Rattle.kdf_usercode.specs.declared.order_names.OrderForm.TheVariants.{Plain, Indirect, Single, Copies, ShiftUp, ShiftDown, ShiftCount, Device, Query}
+use Rattle.kdf_usercode.specs.declared.order_names.OrderForm.TheVariants.{ExitNone, Exit, SetUp, SetDown}
 
 -- orders of one syllable
 abbrev plain_names : List (List ℕ × OrderForm)

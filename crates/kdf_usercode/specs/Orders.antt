@@ -8,7 +8,8 @@ use Rattle.kdf_syllable.specs.declared.order.Order.{Order}
 use Rattle.kdf_syllable.specs.declared.order.Order.TheVariants as orders
 use Rattle.kdf_syllable.specs.declared.amount.Amount.TheVariants as amounts
 use Rattle.kdf_usercode.specs.declared.order_names.OrderForm.{OrderForm}
-use Rattle.kdf_usercode.specs.declared.order_names.OrderForm.TheVariants.{Plain, Indirect, Single, Copies, ShiftUp, ShiftDown, ShiftCount, Device, Query, ExitNone, Exit, SetUp, SetDown, SetOctal}
+use Rattle.kdf_usercode.specs.declared.order_names.OrderForm.TheVariants.{Plain, Indirect, Single, Copies, ShiftUp, ShiftDown, ShiftCount, Device, Query}
+use Rattle.kdf_usercode.specs.declared.order_names.OrderForm.TheVariants.{ExitNone, Exit, SetUp, SetDown, SetOctal}
 use Rattle.kdf_usercode.specs.declared.range.Range.{Range}
 use Rattle.kdf_usercode.specs.Bytes.{letter_b}
 use Rattle.kdf_usercode.specs.Octal.{all_octal, octal}

@@ -15,7 +15,8 @@ use Rattle.kdf_usercode.specs.declared.statement.Statement.{Statement}
 use Rattle.kdf_usercode.specs.declared.statement.Value.{Value}
 use Rattle.kdf_usercode.specs.declared.statement.Value.TheVariants.{Number, Triple}
 use Rattle.kdf_usercode.specs.declared.statement.What.{What}
-use Rattle.kdf_usercode.specs.declared.statement.What.TheVariants.{Declare, Program, Part, Constant, Reference, Star, Plain, Fetch, Keep, Go, Short, SetAddress, Finish}
+use Rattle.kdf_usercode.specs.declared.statement.What.TheVariants.{Declare, Program, Part, Constant, Reference, Star, Plain, Fetch, Keep, Go, Short, SetAddress}
+use Rattle.kdf_usercode.specs.declared.statement.What.TheVariants.{Finish}
 use Rattle.kdf_usercode.specs.Phase.{ends}
 use Rattle.kdf_usercode.specs.Rising.{Rises}
 

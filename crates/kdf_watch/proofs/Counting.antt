@@ -1,7 +1,8 @@
 -- The looks that a watch for a place sees, and the numbers of own orders.
 use Rattle.std.specs.List.{filter, range_with_len}
 use Rattle.std.specs.Prelude.{sum_by}
-use Rattle.std.proofs.Common.{◌≡◌, ℕ, zero, suc, ◌+◌, ◌≤◌, ◌<◌, List, [], ◌∷◌, ◌++◌, Bool, true, false, cond, ◌&&◌, eqb, inl, inr, refl, sym, ◌∙◌, ap, ap₂, subst, arith, append_assoc, append-nil, length, length-append, map, add-zero}
+use Rattle.std.proofs.Common.{◌≡◌, ℕ, zero, suc, ◌+◌, ◌≤◌, ◌<◌, List, [], ◌∷◌, ◌++◌, Bool, true, false, cond, ◌&&◌, eqb, inl, inr, refl, sym, ◌∙◌, ap, ap₂}
+use Rattle.std.proofs.Common.{subst, arith, append_assoc, append-nil, length, length-append, map, add-zero}
 use Rattle.std.proofs.lemmas.Bool.{cases_eq, eq-eqb, ne_eqb}
 use Rattle.std.proofs.lemmas.List.FromFn.{filter_of_map_range_with_len_more}
 use Rattle.kdf_journal.specs.declared.entry.Entry.{Entry}
@@ -66,7 +67,8 @@ module _ (sees : Look → Bool → Type 0) (k at : ℕ) (tells : (look : Look) (
   older : (slots : List Slot) (R P : List Step) → AreUnseen sees (looks slots R P) → hits k at (all_looks slots (R ++ P)) ≡ hits k at (all_looks slots P)
   older slots R P u =
       ap (hits k at) (all-append slots R P)
-      ∙ (hits-append k at (looks slots R P) (all_looks slots P) ∙ (ap (λ (ns : List ℕ). hits k at (all_looks slots P) ++ ns) (hits-unseen (looks slots R P) u) ∙ append-nil (hits k at (all_looks slots P))))
+      ∙ (hits-append k at (looks slots R P) (all_looks slots P) ∙ (ap (λ (ns : List ℕ). hits k at (all_looks slots P) ++ ns) (hits-unseen (looks slots R P) u)
+      ∙ append-nil (hits k at (all_looks slots P))))
 
   module _ (old new : Shown) (ns : List ℕ) (so_far : ns ≡ hits k at (all_looks old.slots (steps old.journal))) where
     pub gone_numbers : HasGone sees old new → ns ≡ hits k at (all_looks old.slots (steps new.journal))
@@ -75,14 +77,16 @@ module _ (sees : Look → Bool → Type 0) (k at : ℕ) (tells : (look : Look) (
     pub seen_numbers : (look : Look) → HasSeen sees old new look → ns ++ look.ran ∷ [] ≡ hits k at (all_looks old.slots (steps new.journal))
     seen_numbers look g =
         let there : look_at old.slots (journal_of (Obeys look.p g.note ∷ g.later ++ steps old.journal)) look.p ≡ look =
-        ap (λ (P : List Step). look_at old.slots (journal_of P) look.p) (sym g.is) ∙ (ap (λ (J : List Entry). look_at old.slots J look.p) g.form ∙ sym g.look_is) in
+        ap (λ (P : List Step). look_at old.slots (journal_of P) look.p) (sym g.is)
+        ∙ (ap (λ (J : List Entry). look_at old.slots J look.p) g.form ∙ sym g.look_is) in
         let last : hit k at look ≡ look.ran ∷ [] = ap (λ (b : Bool). cond b (look.ran ∷ []) []) (sym (tells look true g.seen)) in
         ap₂ (λ (xs ys : List ℕ). xs ++ ys) (so_far ∙ sym (older old.slots g.later (steps old.journal) g.unseen)) (sym last)
         ∙ (ap (λ (x : Look). hits k at (all_looks old.slots (g.later ++ steps old.journal)) ++ hit k at x) (sym there)
         ∙ ap (λ (P : List Step). hits k at (all_looks old.slots P)) (sym g.is))
 
 -- a run that was stopped has fewer calls left
-pub less_seen : (sees : Look → Bool → Type 0) (events : List Event) (c d : Cursor) (old new : Shown) (look : Look) → IsUpTo events c old → IsUpTo events d new → HasSeen sees old new look → length (calls_left events d) < length (calls_left events c)
+pub less_seen : (sees : Look → Bool → Type 0) (events : List Event) (c d : Cursor) (old new : Shown) (look : Look) → IsUpTo events c old → IsUpTo events d new
+    → HasSeen sees old new look → length (calls_left events d) < length (calls_left events c)
 less_seen sees events c d old new look a b g =
     omega (
       arith,
@@ -103,7 +107,8 @@ less_seen sees events c d old new look a b g =
 -- ---- the numbers are those of own orders
 
 -- what a program was after fewer orders stays, whatever is answered then
-early : (slots : List Slot) (J : List Entry) (k n : ℕ) (B : List ℕ) → IsLegal slots J → n ≤ ran k J → lone (start slots k) (answers k J ++ B) n ≡ lone (start slots k) (answers k J) n
+early : (slots : List Slot) (J : List Entry) (k n : ℕ) (B : List ℕ) → IsLegal slots J → n ≤ ran k J
+    → lone (start slots k) (answers k J ++ B) n ≡ lone (start slots k) (answers k J) n
 unfolding own
 early slots J k n B l le = longer (start slots k) (answers k J) B (ran k J) (omega (arith, legal_asked slots J l k)) n le
 
@@ -132,11 +137,13 @@ picked-same f g (suc n) e =
     ∙ (sym (picked-more g n) ∙ ap (picked g) (sym one))))
 
 -- a step in which program k doesn't obey
-stops-same : (slots : List Slot) (J : List Entry) (s : Step) (k at : ℕ) → ran_by k s ≡ 0 → answers_by k s ≡ [] → stops_of slots (added J s) k at ≡ stops_of slots J k at
+stops-same : (slots : List Slot) (J : List Entry) (s : Step) (k at : ℕ) → ran_by k s ≡ 0 → answers_by k s ≡ []
+    → stops_of slots (added J s) k at ≡ stops_of slots J k at
 stops-same slots J s k at r a = rw (ran-added k J s, answers-added k J s, r, a, append-nil, add-zero) refl
 
 -- and one in which it does
-stops-obeys : (slots : List Slot) (J : List Entry) (k at : ℕ) (note : Note) → IsLegal slots J → stops_of slots (added J (Obeys k note)) k at ≡ stops_of slots J k at ++ hit k at (look_at slots (added J (Obeys k note)) k)
+stops-obeys : (slots : List Slot) (J : List Entry) (k at : ℕ) (note : Note) → IsLegal slots J
+    → stops_of slots (added J (Obeys k note)) k at ≡ stops_of slots J k at ++ hit k at (look_at slots (added J (Obeys k note)) k)
 unfolding own
 stops-obeys slots J k at note l =
     let same : eqb k k ≡ true = eq-eqb k k refl in
@@ -145,20 +152,23 @@ stops-obeys slots J k at note l =
     let test : ℕ → Bool = λ n. eqb (own_after slots (added J (Obeys k note)) k n).registers.at at in
     let before : picked test (ran k J) ≡ stops_of slots J k at =
     picked-same test (λ n. eqb (own_after slots J k n).registers.at at) (ran k J)
-    (λ i le. ap (λ (x : State). eqb x.registers.at at) (ap (λ (A : List ℕ). lone (start slots k) A i) answers_are ∙ early slots J k i (answer_in_note note) l le)) in
+    (λ i le. ap (λ (x : State). eqb x.registers.at at) (ap (λ (A : List ℕ). lone (start slots k) A i) answers_are
+    ∙ early slots J k i (answer_in_note note) l le)) in
     ap (picked test) count
     ∙ (picked-more test (ran k J)
     ∙ (ap (λ (ns : List ℕ). ns ++ cond (test (ran k J + 1)) ((ran k J + 1) ∷ []) []) before
     ∙ (ap (λ (n : ℕ). stops_of slots J k at ++ cond (test n) (n ∷ []) []) (sym count)
     ∙ ap (λ (b : Bool). stops_of slots J k at ++ cond (b && test (ran k (added J (Obeys k note)))) (ran k (added J (Obeys k note)) ∷ []) []) (sym same))))
 
-counted_by : (slots : List Slot) (J : List Entry) (s : Step) (k at : ℕ) → IsLegal slots J → stops_of slots (added J s) k at ≡ stops_of slots J k at ++ hits k at (looks_in slots (added J s) s)
+counted_by : (slots : List Slot) (J : List Entry) (s : Step) (k at : ℕ) → IsLegal slots J
+    → stops_of slots (added J s) k at ≡ stops_of slots J k at ++ hits k at (looks_in slots (added J s) s)
 counted_by slots J (Obeys p note) k at l = elim (cases_eq p k) [
   | inl same ↦ rw same (stops-obeys slots J k at note l)
   | inr differ ↦
       let other : eqb p k ≡ false = ne_eqb p k differ in
       stops-same slots J (Obeys p note) k at (rw other refl) (rw other refl)
-      ∙ sym (ap (λ (b : Bool). stops_of slots J k at ++ cond (b && eqb (look_at slots (added J (Obeys p note)) p).at at) ((look_at slots (added J (Obeys p note)) p).ran ∷ []) []) other ∙ append-nil (stops_of slots J k at))
+      ∙ sym (ap (λ (b : Bool). stops_of slots J k at ++ cond (b && eqb (look_at slots (added J (Obeys p note)) p).at at)
+      ((look_at slots (added J (Obeys p note)) p).ran ∷ []) []) other ∙ append-nil (stops_of slots J k at))
 ]
 counted_by slots J (Holds p by) k at l = stops-same slots J (Holds p by) k at refl refl ∙ sym (append-nil (stops_of slots J k at))
 counted_by slots J Waits k at l = stops-same slots J Waits k at refl refl ∙ sym (append-nil (stops_of slots J k at))
@@ -174,7 +184,8 @@ counted_over : (slots : List Slot) (P : List Step) (k at : ℕ) → EachMeets sl
 counted_over slots [] k at m = refl
 counted_over slots (s ∷ P) k at m =
     hits-append k at (looks_in slots (journal_of (s ∷ P)) s) (all_looks slots P)
-    ∙ (ap (λ (ns : List ℕ). ns ++ hits k at (looks_in slots (journal_of (s ∷ P)) s)) (counted_over slots P k at m.0) ∙ sym (counted_by slots (journal_of P) s k at (legal_of slots P m.0)))
+    ∙ (ap (λ (ns : List ℕ). ns ++ hits k at (looks_in slots (journal_of (s ∷ P)) s)) (counted_over slots P k at m.0)
+    ∙ sym (counted_by slots (journal_of P) s k at (legal_of slots P m.0)))
 
 pub counted : (slots : List Slot) (J : List Entry) (k at : ℕ) → IsLegal slots J → hits k at (all_looks slots (steps J)) ≡ stops_of slots J k at
 counted slots J k at l = counted_over slots (steps J) k at l.each ∙ ap (λ (K : List Entry). stops_of slots K k at) l.in_form
@@ -202,6 +213,7 @@ pub first_numbers : (slots : List Slot) (J : List Entry) (k at : ℕ) → J ≡ 
 first_numbers slots J k at fresh = ap (λ (P : List Step). hits k at (all_looks slots P)) (ap steps fresh ∙ steps-nil)
 
 -- a run that no look stopped is at its end
-pub finished_of : (sees : Look → Bool → Type 0) (events : List Event) (old new : Shown) (stop : Stop) → HasStopped sees events old new stop → ((look : Look) → stop ≡ Watched look → ⊥) → HasStopped sees events old new Finished
+pub finished_of : (sees : Look → Bool → Type 0) (events : List Event) (old new : Shown) (stop : Stop) → HasStopped sees events old new stop
+    → ((look : Look) → stop ≡ Watched look → ⊥) → HasStopped sees events old new Finished
 finished_of sees events old new (Watched look) h other = absurd (other look refl)
 finished_of sees events old new Finished h other = h

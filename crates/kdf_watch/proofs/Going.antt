@@ -1,5 +1,6 @@
 -- The journal follows the events just up to the cursor, one call or event further on.
-use Rattle.std.proofs.Common.{◌≡◌, ℕ, ◌+◌, ◌-◌, ◌≤◌, ◌<◌, List, [], ◌∷◌, ◌++◌, true, false, inl, inr, refl, sym, ◌∙◌, ap, subst, arith, append_assoc, length, drop}
+use Rattle.std.proofs.Common.{◌≡◌, ℕ, ◌+◌, ◌-◌, ◌≤◌, ◌<◌, List, [], ◌∷◌, ◌++◌, true, false, inl, inr, refl, sym, ◌∙◌, ap, subst, arith, append_assoc, length}
+use Rattle.std.proofs.Common.{drop}
 use Rattle.std.specs.Prelude.{replicate, sum_by}
 use Rattle.std.proofs.lemmas.List.Sums.{sum_by-drop_more}
 use Rattle.kdf_journal.specs.declared.entry.Entry.{Entry}
@@ -30,10 +31,13 @@ use Rattle.kdf_watch.specs.Entered.{HasEntered}
 use Rattle.kdf_watch.proofs.Ahead.{left-orders, left-over, left-event, left-none}
 
 -- a call more was answered
-pub follows_more : (slots : List Slot) (cs left : List Call) (c : Call) (J : List Entry) (s : Step) → Follows slots cs (c ∷ left) J → call_of s ≡ c → IsLegal slots J → any_live slots J ≡ true → Follows slots cs left (added J s)
+pub follows_more : (slots : List Slot) (cs left : List Call) (c : Call) (J : List Entry) (s : Step) → Follows slots cs (c ∷ left) J → call_of s ≡ c
+    → IsLegal slots J → any_live slots J ≡ true → Follows slots cs left (added J s)
 follows_more slots cs left c J s f is legal live = record {
-  in_order = ap (λ (P : List Step). answered P ++ left) (steps-added J s) ∙ (append_assoc (answered (steps J)) (call_of s ∷ []) left ∙ (ap (λ (d : Call). answered (steps J) ++ d ∷ left) is ∙ f.in_order));
-  lived = subst (EachLive (lone_dispatched slots)) (sym (steps-added J s)) (f.lived, subst (λ (K : List Entry). any_live slots K ≡ true) (sym legal.in_form) live);
+  in_order = ap (λ (P : List Step). answered P ++ left) (steps-added J s)
+      ∙ (append_assoc (answered (steps J)) (call_of s ∷ []) left ∙ (ap (λ (d : Call). answered (steps J) ++ d ∷ left) is ∙ f.in_order));
+  lived = subst (EachLive (lone_dispatched slots)) (sym (steps-added J s))
+      (f.lived, subst (λ (K : List Entry). any_live slots K ≡ true) (sym legal.in_form) live);
 }
 
 module _ (es : List Event) (c : Cursor) (m : Shown) (at : IsAt es c m) (lt : c.event < length es) where
@@ -54,17 +58,20 @@ module _ (es : List Event) (c : Cursor) (m : Shown) (at : IsAt es c m) (lt : c.e
   fit_calls n is less = omega (arith, at.few, orders-here, is, less)
 
   -- some calls of its ORDERS
-  pub at_made : (answers : ℕ → ℕ → Type 0) (k j : ℕ) (w : Shown) → HasMadeOn answers k m w → c.calls + k ≡ j → j ≤ orders_in (event_at es c.event) → IsAt es (record { event = c.event; calls = j }) w
+  pub at_made : (answers : ℕ → ℕ → Type 0) (k j : ℕ) (w : Shown) → HasMadeOn answers k m w → c.calls + k ≡ j → j ≤ orders_in (event_at es c.event)
+      → IsAt es (record { event = c.event; calls = j }) w
   at_made answers k j w h is within = record {
     place = at.place;
     within = within;
     follows = record {
       in_order =
           ap (λ (P : List Step). answered P ++ calls_left es (record { event = c.event; calls = j })) h.goes_on
-          ∙ (ap (λ (cs : List Call). cs ++ calls_left es (record { event = c.event; calls = j })) (answered-append h.more (steps m.journal) ∙ ap (λ (cs : List Call). answered (steps m.journal) ++ cs) h.in_order)
+          ∙ (ap (λ (cs : List Call). cs ++ calls_left es (record { event = c.event; calls = j })) (answered-append h.more (steps m.journal)
+          ∙ ap (λ (cs : List Call). answered (steps m.journal) ++ cs) h.in_order)
           ∙ (append_assoc (answered (steps m.journal)) (replicate k AnOrder) (calls_left es (record { event = c.event; calls = j }))
           ∙ (ap (λ (cs : List Call). answered (steps m.journal) ++ cs)
-          (sym (left-orders es k c lt (omega (arith, is, within)) ∙ ap (λ (i : ℕ). replicate k AnOrder ++ calls_left es (record { event = c.event; calls = i })) is))
+          (sym (left-orders es k c lt (omega (arith, is, within))
+          ∙ ap (λ (i : ℕ). replicate k AnOrder ++ calls_left es (record { event = c.event; calls = i })) is))
           ∙ at.follows.in_order)));
       lived = subst (λ (S : List Slot). EachLive (lone_dispatched S) (steps w.journal)) (sym h.slots) (h.lived at.follows.lived);
     };
@@ -74,7 +81,8 @@ module _ (es : List Event) (c : Cursor) (m : Shown) (at : IsAt es c m) (lt : c.e
     time = omega (arith, at.time, h.time);
   }
 
-  pub at_moved : (answers : ℕ → ℕ → Type 0) (j : ℕ) (w : Shown) → HasMoved answers c.calls j m w → j ≤ orders_in (event_at es c.event) → IsAt es (record { event = c.event; calls = j }) w
+  pub at_moved : (answers : ℕ → ℕ → Type 0) (j : ℕ) (w : Shown) → HasMoved answers c.calls j m w → j ≤ orders_in (event_at es c.event)
+      → IsAt es (record { event = c.event; calls = j }) w
   at_moved answers j w moved within = at_made answers moved.made j w moved.on moved.count within
 
   -- the event is passed
@@ -84,7 +92,8 @@ module _ (es : List Event) (c : Cursor) (m : Shown) (at : IsAt es c m) (lt : c.e
     over n is = record {
       place = omega (arith, lt);
       within = omega arith;
-      follows = subst (λ (cs : List Call). Follows m.slots (calls_made es) cs m.journal) (left-over es c lt n is (omega (arith, all, at.within, ap orders_in is))) at.follows;
+      follows = subst (λ (cs : List Call). Follows m.slots (calls_made es) cs m.journal)
+          (left-over es c lt n is (omega (arith, all, at.within, ap orders_in is))) at.follows;
       few = omega (arith, at.few, orders-here, at.within, all);
       room = omega (arith, at.room, entries-here);
       rises = subst (λ (e : Event). IsRising (time_behind (clock m.journal) e) (drop (c.event + 1) es)) is rises-after;
@@ -92,32 +101,41 @@ module _ (es : List Event) (c : Cursor) (m : Shown) (at : IsAt es c m) (lt : c.e
     }
 
     -- where it is another
-    other : (w : Shown) (call : Call) (s : Step) → Enters m w s → calls_of (event_at es c.event) ≡ call ∷ [] → orders_in (event_at es c.event) ≡ 0 → call_of s ≡ call → calls_by s ≡ 0 → entries_in (event_at es c.event) ≡ 1
-        → clock_by (clock m.journal) s ≡ time_behind (clock m.journal) (event_at es c.event) → clock_by (clock m.journal) s ≤ 140737488355327 → IsLegal m.slots m.journal → any_live m.slots m.journal ≡ true → IsAt es (passed c) w
+    other : (w : Shown) (call : Call) (s : Step) → Enters m w s → calls_of (event_at es c.event) ≡ call ∷ [] → orders_in (event_at es c.event) ≡ 0
+        → call_of s ≡ call → calls_by s ≡ 0 → entries_in (event_at es c.event) ≡ 1
+        → clock_by (clock m.journal) s ≡ time_behind (clock m.journal) (event_at es c.event) → clock_by (clock m.journal) s ≤ 140737488355327
+        → IsLegal m.slots m.journal → any_live m.slots m.journal ≡ true → IsAt es (passed c) w
     other w call s enters calls_is none is no_calls entry time small legal live = subst (IsAt es (passed c)) (sym enters) (record {
       place = omega (arith, lt);
       within = omega arith;
       follows =
           follows_more m.slots (calls_made es) (calls_left es (passed c)) call m.journal s
-          (subst (λ (cs : List Call). Follows m.slots (calls_made es) cs m.journal) (left-event es c lt call calls_is (omega (arith, at.within, none))) at.follows) is legal live;
+          (subst (λ (cs : List Call). Follows m.slots (calls_made es) cs m.journal) (left-event es c lt call calls_is (omega (arith, at.within, none)))
+          at.follows) is legal live;
       few = omega (arith, at.few, orders-here, at.within, none, calls-added m.journal s, no_calls);
       room = omega (arith, at.room, entries-here, entry);
       rises = subst (λ (t : ℕ). IsRising t (drop (c.event + 1) es)) (sym (clock-added m.journal s ∙ time)) rises-after;
       time = omega (arith, clock-added m.journal s, small);
     })
 
-    by_event : (w : Shown) (e : Event) → event_at es c.event ≡ e → IsInRange e → HasEntered m w e → IsLegal m.slots m.journal → any_live m.slots m.journal ≡ true → IsAt es (passed c) w
+    by_event : (w : Shown) (e : Event) → event_at es c.event ≡ e → IsInRange e → HasEntered m w e → IsLegal m.slots m.journal
+        → any_live m.slots m.journal ≡ true → IsAt es (passed c) w
     by_event w (Orders n) is range same legal live = subst (IsAt es (passed c)) (sym same) (over n is)
     by_event w (Move d n) is range enters legal live =
-        other w (AMove d n) (Moves d n) enters (ap calls_of is) (ap orders_in is) refl refl (ap entries_in is) (sym (ap (time_behind (clock m.journal)) is)) at.time legal live
+        other w (AMove d n) (Moves d n) enters (ap calls_of is) (ap orders_in is) refl refl (ap entries_in is) (sym (ap (time_behind (clock m.journal)) is))
+        at.time legal live
     by_event w (End d) is range enters legal live =
-        other w (AnEnd d) (Ends d) enters (ap calls_of is) (ap orders_in is) refl refl (ap entries_in is) (sym (ap (time_behind (clock m.journal)) is)) at.time legal live
+        other w (AnEnd d) (Ends d) enters (ap calls_of is) (ap orders_in is) refl refl (ap entries_in is) (sym (ap (time_behind (clock m.journal)) is)) at.time
+        legal live
     by_event w (Clock t) is range enters legal live =
-        other w (AClock t) (Sets t) enters (ap calls_of is) (ap orders_in is) refl refl (ap entries_in is) (sym (ap (time_behind (clock m.journal)) is)) range legal live
+        other w (AClock t) (Sets t) enters (ap calls_of is) (ap orders_in is) refl refl (ap entries_in is) (sym (ap (time_behind (clock m.journal)) is)) range
+        legal live
     by_event w (Swap p q) is range enters legal live =
-        other w (ASwap p q) (Swaps p q) enters (ap calls_of is) (ap orders_in is) refl refl (ap entries_in is) (sym (ap (time_behind (clock m.journal)) is)) at.time legal live
+        other w (ASwap p q) (Swaps p q) enters (ap calls_of is) (ap orders_in is) refl refl (ap entries_in is) (sym (ap (time_behind (clock m.journal)) is))
+        at.time legal live
 
-    pub at_passed : (w : Shown) → IsInRange (event_at es c.event) → HasEntered m w (event_at es c.event) → IsLegal m.slots m.journal → any_live m.slots m.journal ≡ true → IsAt es (passed c) w
+    pub at_passed : (w : Shown) → IsInRange (event_at es c.event) → HasEntered m w (event_at es c.event) → IsLegal m.slots m.journal
+        → any_live m.slots m.journal ≡ true → IsAt es (passed c) w
     at_passed w = by_event w (event_at es c.event) refl
 
 -- the run is at its end

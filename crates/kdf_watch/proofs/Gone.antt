@@ -49,7 +49,8 @@ module _ (sees : Look → Bool → Type 0) (old m w : Shown) (g : HasGone sees o
   blind s is quiet = record {
     later = s ∷ g.later;
     is = is ∙ ap (λ (P : List Step). s ∷ P) g.is;
-    unseen = subst (AreUnseen sees) (sym (ap (λ (ls : List Look). ls ++ looks old.slots g.later (steps old.journal)) (quiet old.slots (journal_of (s ∷ g.later ++ steps old.journal))))) g.unseen;
+    unseen = subst (AreUnseen sees) (sym (ap (λ (ls : List Look). ls ++ looks old.slots g.later (steps old.journal))
+        (quiet old.slots (journal_of (s ∷ g.later ++ steps old.journal))))) g.unseen;
   }
 
   pub gone_blind : (s : Step) → Tells m w s → IsBlind s → HasGone sees old w
@@ -66,7 +67,8 @@ module _ (sees : Look → Bool → Type 0) (old m w : Shown) (g : HasGone sees o
   gone_entered (Swap p q) enters = entered_blind (Swaps p q) enters (λ slots J. refl)
 
   -- an order with its look
-  module _ (same : m.slots ≡ old.slots) (look : Look) (note : Note) (tells : Tells m w (Obeys look.p note)) (look_is : look ≡ look_at m.slots w.journal look.p) (legal : IsLegal m.slots m.journal) where
+  module _ (same : m.slots ≡ old.slots) (look : Look) (note : Note) (tells : Tells m w (Obeys look.p note)) (look_is : look ≡ look_at m.slots w.journal look.p)
+      (legal : IsLegal m.slots m.journal) where
     is_more : steps w.journal ≡ Obeys look.p note ∷ g.later ++ steps old.journal
     is_more = told m w (Obeys look.p note) tells ∙ ap (λ (P : List Step). Obeys look.p note ∷ P) g.is
 
@@ -83,12 +85,16 @@ module _ (sees : Look → Bool → Type 0) (old m w : Shown) (g : HasGone sees o
     gone_look unseen = record {
       later = Obeys look.p note ∷ g.later;
       is = is_more;
-      unseen = (subst (λ (x : Look). sees x false) (look_same ∙ ap (λ (J : List Entry). look_at old.slots J look.p) (sym form ∙ ap journal_of is_more)) unseen, g.unseen);
+      unseen = (
+        subst (λ (x : Look). sees x false) (look_same ∙ ap (λ (J : List Entry). look_at old.slots J look.p) (sym form ∙ ap journal_of is_more)) unseen,
+        g.unseen,
+      );
     }
 
   -- further steps
   module _ (same : m.slots ≡ old.slots) where
-    further : (later : List Step) → AreUnseen sees (looks m.slots later (steps m.journal)) → AreUnseen sees (looks old.slots (later ++ g.later) (steps old.journal))
+    further : (later : List Step) → AreUnseen sees (looks m.slots later (steps m.journal))
+        → AreUnseen sees (looks old.slots (later ++ g.later) (steps old.journal))
     further later unseen =
         subst (AreUnseen sees) (sym (looks-append old.slots later g.later (steps old.journal)))
         (unseen-append sees (looks old.slots later (g.later ++ steps old.journal)) (looks old.slots g.later (steps old.journal))
@@ -117,7 +123,8 @@ module _ (sees : Look → Bool → Type 0) (old m w : Shown) (g : HasGone sees o
     paused_on es (Some stop) h = stopped_on es stop h
 
 -- a journal that is true for a service stays so
-pub true_entered_by : (answers : ℕ → ℕ → Type 0) (m w : Shown) (e : Event) → IsLegal m.slots m.journal → IsTrueFor answers m.slots m.journal → HasEntered m w e → IsTrueFor answers w.slots w.journal
+pub true_entered_by : (answers : ℕ → ℕ → Type 0) (m w : Shown) (e : Event) → IsLegal m.slots m.journal → IsTrueFor answers m.slots m.journal → HasEntered m w e
+    → IsTrueFor answers w.slots w.journal
 true_entered_by answers m w (Orders n) legal truly same = subst (λ (x : Shown). IsTrueFor answers x.slots x.journal) (sym same) truly
 true_entered_by answers m w (Move d n) legal truly enters = true_entered answers m w (Moves d n) legal truly tt enters
 true_entered_by answers m w (End d) legal truly enters = true_entered answers m w (Ends d) legal truly tt enters

@@ -64,7 +64,8 @@ module _ (es : List Event) (c : Cursor) (m : Shown) (keeps : KeepsLimits es) (le
   parts = take-append-drop c.event es
 
   front-made : calls_made front ≡ calls_made (take c.event es) ++ replicate c.calls AnOrder
-  front-made = calls_made-append (take c.event es) (Orders c.calls ∷ []) ∙ ap (λ (cs : List Call). calls_made (take c.event es) ++ cs) (calls_made-one (Orders c.calls))
+  front-made = calls_made-append (take c.event es) (Orders c.calls ∷ [])
+      ∙ ap (λ (cs : List Call). calls_made (take c.event es) ++ cs) (calls_made-one (Orders c.calls))
 
   answered-is : answered (steps m.journal) ≡ calls_made front
   answered-is = append_cancel_right (answered (steps m.journal)) (calls_made front) (calls_left es c)
@@ -76,7 +77,12 @@ module _ (es : List Event) (c : Cursor) (m : Shown) (keeps : KeepsLimits es) (le
       ∙ sym (ap (λ (cs : List Call). cs ++ calls_left es c) front-made))
 
   whole : IsWhole m.slots (calls_made front) m.journal
-  whole = record { left = []; follows = record { in_order = append-nil (answered (steps m.journal)) ∙ answered-is; lived = up.follows.lived }; at_end = inl refl }
+  whole = record {
+    left = [];
+    follows = record { in_order = append-nil (answered (steps m.journal)) ∙ answered-is; lived = up.follows.lived };
+    at_end =
+        inl refl;
+  }
 
   rises : IsRising 0 (take c.event es ++ Orders c.calls ∷ drop c.event es)
   rises = with_orders 0 c.calls (take c.event es) (drop c.event es) (subst (IsRising 0) (sym parts) keeps.rises)
@@ -84,7 +90,8 @@ module _ (es : List Event) (c : Cursor) (m : Shown) (keeps : KeepsLimits es) (le
   rises_front : IsRising 0 (take c.event es ++ Orders c.calls ∷ Clock 140737488355327 ∷ [])
   rises_front =
       with_orders 0 c.calls (take c.event es) (Clock 140737488355327 ∷ [])
-      (latest 0 (take c.event es) (omega arith) (first_each c.event es keeps.in_range) (first_rises 0 (take c.event es) (drop c.event es) (subst (IsRising 0) (sym parts) keeps.rises)))
+      (latest 0 (take c.event es) (omega arith) (first_each c.event es keeps.in_range)
+      (first_rises 0 (take c.event es) (drop c.event es) (subst (IsRising 0) (sym parts) keeps.rises)))
 
   pub at_from : IsAt es c m
   at_from = record {

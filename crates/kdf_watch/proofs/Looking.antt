@@ -1,7 +1,8 @@
 -- The look after an order, and which programs are live.
 use Rattle.std.specs.Prelude.{is_some}
 use Rattle.std.specs.Option.{option_map}
-use Rattle.std.proofs.Common.{◌≡◌, ◌≢◌, ℕ, zero, suc, ◌<◌, ◌≤◌, Bool, true, false, cond, ◌&&◌, List, [], ◌∷◌, map, Option, Some, None, ◌⊎◌, inl, inr, refl, sym, ◌∙◌, ap, subst, ⊎_elim, arith}
+use Rattle.std.proofs.Common.{◌≡◌, ◌≢◌, ℕ, zero, suc, ◌<◌, ◌≤◌, Bool, true, false, cond, ◌&&◌, List, [], ◌∷◌, map, Option, Some, None, ◌⊎◌, inl, inr, refl, sym}
+use Rattle.std.proofs.Common.{◌∙◌, ap, subst, ⊎_elim, arith}
 use Rattle.std.proofs.lemmas.Bool.{cases_eq, eq-eqb, ne_eqb}
 use Rattle.kdf_journal.specs.declared.entry.Entry.{Entry}
 use Rattle.kdf_journal.specs.Counts.{answers, calls, clock, ran}
@@ -60,11 +61,13 @@ state_is g p (x ∷ slots) =
     (cases_eq x.p p)
 
 -- its registers are those of its lone run
-own_registers : (slots : List Slot) (J : List Entry) (p : ℕ) (o : Option Slot) → option_map (λ (s : State). s.registers) (option_map (λ (x : Slot). seen_of slots J p) o) ≡ option_map (λ (x : Slot). (own slots J p).registers) o
+own_registers : (slots : List Slot) (J : List Entry) (p : ℕ) (o : Option Slot)
+    → option_map (λ (s : State). s.registers) (option_map (λ (x : Slot). seen_of slots J p) o) ≡ option_map (λ (x : Slot). (own slots J p).registers) o
 own_registers slots J p None = refl
 own_registers slots J p (Some x) = refl
 
-pub registers_are : (m : Shown) (p : ℕ) → ShowsSeen m → option_map (λ (s : State). s.registers) (state_of m p) ≡ option_map (λ (x : Slot). (own m.slots m.journal p).registers) (slot_of m.slots p)
+pub registers_are : (m : Shown) (p : ℕ) → ShowsSeen m → option_map (λ (s : State). s.registers) (state_of m p) ≡ option_map
+    (λ (x : Slot). (own m.slots m.journal p).registers) (slot_of m.slots p)
 registers_are m p seen =
     ap (λ (xs : List State). option_map (λ (s : State). s.registers) (state_in m.slots xs p)) seen
     ∙ (ap (option_map (λ (s : State). s.registers)) (state_is (seen_of m.slots m.journal) p m.slots) ∙ own_registers m.slots m.journal p (slot_of m.slots p))
@@ -74,8 +77,10 @@ there_by : (o : Option Slot) (r : Registers) (found : Option Registers) → is_s
 there_by None r found is same = cc
 there_by (Some x) r found is same = same
 
-pub registers_there : (m : Shown) (p : ℕ) → ShowsSeen m → is_some (slot_of m.slots p) ≡ true → option_map (λ (s : State). s.registers) (state_of m p) ≡ Some (own m.slots m.journal p).registers
-registers_there m p seen is = there_by (slot_of m.slots p) (own m.slots m.journal p).registers (option_map (λ (s : State). s.registers) (state_of m p)) is (registers_are m p seen)
+pub registers_there : (m : Shown) (p : ℕ) → ShowsSeen m → is_some (slot_of m.slots p) ≡ true → option_map (λ (s : State). s.registers) (state_of m p)
+    ≡ Some (own m.slots m.journal p).registers
+registers_there m p seen is = there_by (slot_of m.slots p) (own m.slots m.journal p).registers (option_map (λ (s : State). s.registers) (state_of m p)) is
+    (registers_are m p seen)
 
 -- ---- whether it is live
 
@@ -87,7 +92,8 @@ on_by : (o : Option Slot) (r : Registers) → is_on (option_map (λ (x : Slot). 
 on_by None r = refl
 on_by (Some x) r = refl
 
-pub lives_is : (m : Shown) (p : ℕ) → ShowsSeen m → IsLegal m.slots m.journal → is_on (option_map (λ (s : State). s.registers) (state_of m p)) ≡ lives m.slots m.journal p
+pub lives_is : (m : Shown) (p : ℕ) → ShowsSeen m → IsLegal m.slots m.journal → is_on (option_map (λ (s : State). s.registers) (state_of m p))
+    ≡ lives m.slots m.journal p
 unfolding course.lives
 lives_is m p seen legal =
     ap is_on (registers_are m p seen)
@@ -108,7 +114,8 @@ module _ (m : Shown) (p : ℕ) (seen : ShowsSeen m) (is : is_some (slot_of m.slo
   pub absent : None ≡ option_map (λ (s : State). s.registers) (state_of m p) → ⊥
   absent e = none_there (own m.slots m.journal p).registers (option_map (λ (s : State). s.registers) (state_of m p)) (registers_there m p seen is) e
 
-  pub look_is : (r : Registers) (J : List Entry) (n t : ℕ) → Some r ≡ option_map (λ (s : State). s.registers) (state_of m p) → J ≡ m.journal → n ≡ ran p J → t ≡ clock J → record { p = p; ran = n; at = r.at; clock = t } ≡ look_at m.slots m.journal p
+  pub look_is : (r : Registers) (J : List Entry) (n t : ℕ) → Some r ≡ option_map (λ (s : State). s.registers) (state_of m p) → J ≡ m.journal → n ≡ ran p J
+      → t ≡ clock J → record { p = p; ran = n; at = r.at; clock = t } ≡ look_at m.slots m.journal p
   look_is r J n t found same is_ran is_time =
       λ i. record { p = p; ran = (is_ran ∙ ap (ran p) same) i; at = ap at_in (found ∙ registers_there m p seen is) i; clock = (is_time ∙ ap clock same) i }
 
@@ -134,7 +141,8 @@ module _ (answers : ℕ → ℕ → Type 0) (m w : Shown) (r : Progress) (took :
   pub slot_there : (p : ℕ) → r ≡ progress.Ran p → w.slots ≡ m.slots → is_some (slot_of w.slots p) ≡ true
   slot_there p is same = ap (λ (S : List Slot). is_some (slot_of S p)) same ∙ next_slot (world_of m) m.slots m.journal p (obeyed p is).was_next
 
-  seen_by : (heard : ℕ) (p : ℕ) → Obeyed heard m w p → w.slots ≡ m.slots → calls m.journal < 20000000 → clock m.journal ≤ 140737488355327 → Sighted m w (look_at w.slots w.journal p)
+  seen_by : (heard : ℕ) (p : ℕ) → Obeyed heard m w p → w.slots ≡ m.slots → calls m.journal < 20000000 → clock m.journal ≤ 140737488355327
+      → Sighted m w (look_at w.slots w.journal p)
   seen_by heard p did same few time = (
     note_of (state_at m p) (truth (world_of m) m.journal p heard),
     record { live = found_is heard m w (progress.Ran p) did; journal = did.journal },
@@ -147,7 +155,8 @@ module _ (answers : ℕ → ℕ → Type 0) (m w : Shown) (r : Progress) (took :
     },
   )
 
-  pub called_seen : (p : ℕ) → r ≡ progress.Ran p → w.slots ≡ m.slots → calls m.journal < 20000000 → clock m.journal ≤ 140737488355327 → (look : Look) → look ≡ look_at w.slots w.journal p → Sighted m w look
+  pub called_seen : (p : ℕ) → r ≡ progress.Ran p → w.slots ≡ m.slots → calls m.journal < 20000000 → clock m.journal ≤ 140737488355327 → (look : Look)
+      → look ≡ look_at w.slots w.journal p → Sighted m w look
   called_seen p is same few time look look_is = subst (λ (x : Look). Sighted m w x) (sym look_is) (seen_by took.heard p (obeyed p is) same few time)
 
   held_by : (heard : ℕ) (p : ℕ) (need : Need) → HeldUp m w p need → Unsighted m w

@@ -27,14 +27,16 @@ halt_is Never p n t r = refl
 halt_is Each p n t r = refl
 halt_is (At k at) p n t r = refl
 
-no_halt : (halt : Halt) (w : Shown) (p : ℕ) (look : Look) → ShowsSeen w → is_some (slot_of w.slots p) ≡ true → look ≡ look_at w.slots w.journal p → stops halt w (progress.Ran p) ≡ false → is_halt halt look ≡ false
+no_halt : (halt : Halt) (w : Shown) (p : ℕ) (look : Look) → ShowsSeen w → is_some (slot_of w.slots p) ≡ true → look ≡ look_at w.slots w.journal p
+    → stops halt w (progress.Ran p) ≡ false → is_halt halt look ≡ false
 no_halt halt w p look seen there is goes_on =
     ap (is_halt halt) is
     ∙ sym (halt_is halt p (look_at w.slots w.journal p).ran (look_at w.slots w.journal p).clock (own w.slots w.journal p).registers)
     ∙ sym (ap (halts halt p) (registers_there w p seen there))
     ∙ goes_on
 
-pub passed_of : (answers : ℕ → ℕ → Type 0) (halt : Halt) (n : ℕ) (m w : Shown) → (halt ≡ Never → ⊥) → ArePassed answers halt n m w → HasPassed answers halt n m w
+pub passed_of : (answers : ℕ → ℕ → Type 0) (halt : Halt) (n : ℕ) (m w : Shown) → (halt ≡ Never → ⊥) → ArePassed answers halt n m w
+    → HasPassed answers halt n m w
 passed_of answers Never n m w may p = absurd (may refl)
 passed_of answers Each n m w may p = p
 passed_of answers (At k at) n m w may p = p
@@ -48,12 +50,14 @@ pub record Passed (sees : Look → Bool → Type 0) (m w : Shown) (n : ℕ) : Ty
   pub time : clock w.journal ≡ clock m.journal
 
 module _ (answers : ℕ → ℕ → Type 0) (sees : Look → Bool → Type 0) (halt : Halt) (stop : IsStopFor sees halt) where
-  module _ (m b w : Shown) (n : ℕ) (g : Passed sees m b n) (few : calls m.journal + n < 20000000) (time : clock m.journal ≤ 140737488355327) (same : w.slots ≡ b.slots) (seen : ShowsSeen w) where
+  module _ (m b w : Shown) (n : ℕ) (g : Passed sees m b n) (few : calls m.journal + n < 20000000) (time : clock m.journal ≤ 140737488355327)
+      (same : w.slots ≡ b.slots) (seen : ShowsSeen w) where
     by_call : (r : Progress) → AdvanceWith answers b w r → found_live r ≡ true → stops halt w r ≡ false → HasGone sees m w
     by_call (progress.Ran p) took live goes_on =
         let look : Look = look_at w.slots w.journal p in
         let there = slot_there answers b w (progress.Ran p) took p refl same in
-        let s : Sighted b w look = called_seen answers b w (progress.Ran p) took p refl same (omega (arith, g.few, few)) (omega (arith, g.time, time)) look refl in
+        let s : Sighted b w look = called_seen answers b w (progress.Ran p) took p refl same (omega (arith, g.few, few)) (omega (arith, g.time, time)) look
+        refl in
         gone_look sees m b w g.gone g.slots look s.0 s.1 s.2 g.legal (stop.elsewhere look s.3 (no_halt halt w p look seen there refl goes_on))
     by_call (progress.Held p need) took live goes_on =
         let u : Unsighted b w = called_unseen answers b w (progress.Held p need) took (inl (p, need, refl)) in
@@ -63,20 +67,23 @@ module _ (answers : ℕ → ℕ → Type 0) (sees : Look → Bool → Type 0) (h
         gone_blind sees m b w g.gone u.0 u.1 u.2
     by_call progress.AllEnded took live goes_on = absurd cc
 
-  pass_one : (m b w : Shown) (n : ℕ) → Passed sees m b n → IsPassed answers halt b w → calls m.journal + n < 20000000 → clock m.journal ≤ 140737488355327 → Passed sees m w (suc n)
+  pass_one : (m b w : Shown) (n : ℕ) → Passed sees m b n → IsPassed answers halt b w → calls m.journal + n < 20000000 → clock m.journal ≤ 140737488355327
+      → Passed sees m w (suc n)
   pass_one m b w n g p few time =
       let x = p.made in
       let h = x.all_on p.live in
       let none : x.before ≡ 0 = omega (arith, x.count) in
       record {
-        gone = by_call m b w n g few time h.slots p.seen p.progress (subst (λ (z : Shown). AdvanceWith answers z w p.progress) (at_once answers x.before none b x.between x.earlier.made) x.last) p.live p.goes_on;
+        gone = by_call m b w n g few time h.slots p.seen p.progress
+            (subst (λ (z : Shown). AdvanceWith answers z w p.progress) (at_once answers x.before none b x.between x.earlier.made) x.last) p.live p.goes_on;
         slots = h.slots ∙ g.slots;
         legal = h.legal;
         few = omega (arith, h.few, g.few);
         time = h.time ∙ g.time;
       }
 
-  pub pass_all : (n : ℕ) (m w : Shown) → HasPassed answers halt n m w → IsLegal m.slots m.journal → calls m.journal + n ≤ 20000000 → clock m.journal ≤ 140737488355327 → Passed sees m w n
+  pub pass_all : (n : ℕ) (m w : Shown) → HasPassed answers halt n m w → IsLegal m.slots m.journal → calls m.journal + n ≤ 20000000
+      → clock m.journal ≤ 140737488355327 → Passed sees m w n
   pass_all zero m w same legal few time =
       subst (λ (z : Shown). Passed sees m z 0) (sym same) (record { gone = gone_none sees m; slots = refl; legal = legal; few = omega arith; time = refl })
   pass_all (suc n) m w h legal few time =

@@ -1,5 +1,6 @@
 -- The next order of a program is at one of the 49,152 syllables.
-use Rattle.std.proofs.Common.{◌≡◌, ℕ, zero, suc, ◌+◌, ◌*◌, ◌/◌, ◌%◌, ◌<◌, ◌^◌, Bool, true, false, cond, eqb, leb, ltb, not, ◌&&◌, ◌||◌, ◌-◌, List, [], ◌∷◌, length, Option, Some, None, refl, arith}
+use Rattle.std.proofs.Common.{◌≡◌, ℕ, zero, suc, ◌+◌, ◌*◌, ◌/◌, ◌%◌, ◌<◌, ◌^◌, Bool, true, false, cond, eqb, leb, ltb, not, ◌&&◌, ◌||◌, ◌-◌, List, [], ◌∷◌}
+use Rattle.std.proofs.Common.{length, Option, Some, None, refl, arith}
 use Rattle.std.specs.Prelude.{IfSome}
 use Rattle.std.specs.Int.{is_in_range}
 use Rattle.std.proofs.lemmas.Bool.{ltb-true}
@@ -20,11 +21,15 @@ use Rattle.kdf_transfer.specs.declared.order.TransferOrder.{TransferOrder}
 use Rattle.kdf_transfer.specs.declared.test.Test.TheVariants.{Flag, Start, Mark}
 use Rattle.kdf_processor.specs.declared.registers.Registers.{Registers}
 use Rattle.kdf_processor.specs.State.{Claims, State, word_at}
-use Rattle.kdf_processor.specs.Effect.{Question, IsBusy, IsOut, Time, FreeOf, OfService, Change, Refused, Going, Decision, Undecided, Decided, Effect, Failing, Ending, Changing, Fetching, Keeping, Testing, Starting, Asking, Claiming, Returning, Spooling, of_change}
+use Rattle.kdf_processor.specs.Effect.{Question, IsBusy, IsOut, Time, FreeOf, OfService, Change, Refused, Going, Decision, Undecided, Decided, Effect, Failing}
+use Rattle.kdf_processor.specs.Effect.{Ending, Changing, Fetching, Keeping, Testing, Starting, Asking, Claiming, Returning, Spooling, of_change}
 use Rattle.kdf_processor.specs.Lone.{lone}
 use Rattle.kdf_processor.specs.Needs.{count_at, decoded_or_none, effect_or_liv, next_effect, order_at, syllables}
 use Rattle.kdf_processor.specs.Row.{perform, row}
-use Rattle.kdf_processor.specs.Table.{on, on_top, arith_changes, link_row, keep_link_row, plain_row, claims_found, claims_or_takes, claims_kind, out_effect, pushes, sets_q, changes_q, short_loop, brought, from_top, changed, single_row, copied, places_of, moves, has_bit, indirect_effect, indirect_address, indirect_half, direct_effect, jumps_so, decision, is_area, exit_row, starts, transfer_of, query_effect, guarded, effect}
+use Rattle.kdf_processor.specs.Table.{on, on_top, arith_changes, link_row, keep_link_row, plain_row, claims_found, claims_or_takes, claims_kind, out_effect}
+use Rattle.kdf_processor.specs.Table.{pushes, sets_q, changes_q, short_loop, brought, from_top, changed, single_row, copied, places_of, moves, has_bit}
+use Rattle.kdf_processor.specs.Table.{indirect_effect, indirect_address, indirect_half, direct_effect, jumps_so, decision, is_area, exit_row, starts}
+use Rattle.kdf_processor.specs.Table.{transfer_of, query_effect, guarded, effect}
 
 -- ---- where an order goes on
 
@@ -64,7 +69,8 @@ if_small : (b : Bool) {x y : Change} → IsSmall x → IsSmall y → IsSmall (co
 if_small true p q = p
 if_small false p q = q
 
-top_placed : (nest : List ℕ) (x : Effect) (f : ℕ → List ℕ → Effect) → IsPlaced x → ((n : ℕ) (below : List ℕ) → IsPlaced (f n below)) → IsPlaced (on_top x nest f)
+top_placed : (nest : List ℕ) (x : Effect) (f : ℕ → List ℕ → Effect) → IsPlaced x → ((n : ℕ) (below : List ℕ) → IsPlaced (f n below))
+    → IsPlaced (on_top x nest f)
 top_placed [] x f p q = p
 top_placed (n ∷ below) x f p q = q n below
 
@@ -205,7 +211,8 @@ guarded_placed c (Keeping a w after) h = if_placed (ltb a c.size) h fails
 guarded_placed c (Testing d Flag after) h = if_placed (is_claimed c d) h fails
 guarded_placed c (Testing d Start after) h = if_placed (is_kind Mt (claim c d)) h fails
 guarded_placed c (Testing d Mark after) h = if_placed (is_kind Mt (claim c d)) h fails
-guarded_placed c (Starting d o first last after) h = if_placed (is_kind (kind_of o) (claim c d)) (if_placed (has_area o) (if_placed (is_area c.size first last) h fails) h) fails
+guarded_placed c (Starting d o first last after) h =
+    if_placed (is_kind (kind_of o) (claim c d)) (if_placed (has_area o) (if_placed (is_area c.size first last) h fails) h) fails
 guarded_placed c (Asking (IsBusy d) after) h = if_placed (is_claimed c d) h fails
 guarded_placed c (Asking (IsOut first last) after) h = if_placed (is_area c.size first last) h fails
 guarded_placed c (Asking Time after) h = h
@@ -222,7 +229,8 @@ is_targeted o = Unit {0}
 
 effect_placed : (c : Claims) (r : Registers) (o : Order) → is_targeted o → IsPlaced (effect c r o)
 effect_placed c r (Plain code) lt =
-    if_placed (eqb code 0x21) (guarded_placed c _ (top_placed r.nest _ _ fails (λ n below. out_placed c r n below))) (of_change_placed (plain_row r code) (plain_small r code))
+    if_placed (eqb code 0x21) (guarded_placed c _ (top_placed r.nest _ _ fails (λ n below. out_placed c r n below)))
+    (of_change_placed (plain_row r code) (plain_small r code))
 effect_placed c r (Indirect code k q) lt = guarded_placed c _ (indirect_placed r code k q)
 effect_placed c r (Single code q) lt = of_change_placed _ (single_small r code q (triple_at r.q q))
 effect_placed c r (Copies code q k) lt = of_change_placed _ (changes_small r k (copied code (triple_at r.q q) (triple_at r.q k)))
@@ -255,7 +263,8 @@ only_targeted false a target lt = none_targeted
 
 shift_targeted : (a b : ℕ) → AreTargeted (decoded_shift a b)
 shift_targeted a b =
-    if_targeted (eqb (b % 2) 1) (spelt (Shift a (Fixed (signed_7 (b / 2)))) tt) (if_targeted (eqb (b % 16) 0) (spelt (Shift a (Count (b / 16))) tt) none_targeted)
+    if_targeted (eqb (b % 2) 1) (spelt (Shift a (Fixed (signed_7 (b / 2)))) tt)
+    (if_targeted (eqb (b % 16) 0) (spelt (Shift a (Count (b / 16))) tt) none_targeted)
 
 two_targeted : (a b : ℕ) → AreTargeted (decoded_two a b)
 two_targeted a b =
@@ -274,7 +283,8 @@ jump_targeted a b d =
 
 store_targeted : (a b d : ℕ) → AreTargeted (decoded_store a b d)
 store_targeted a b d =
-    if_targeted (is_in_range 0xc0 0xdf a) (spelt (direct (2 ^ 16 * a + 2 ^ 8 * b + d)) tt) (if_targeted (eqb a 0xe0) (spelt (Set (2 ^ 8 * b + d)) tt) none_targeted)
+    if_targeted (is_in_range 0xc0 0xdf a) (spelt (direct (2 ^ 16 * a + 2 ^ 8 * b + d)) tt)
+    (if_targeted (eqb a 0xe0) (spelt (Set (2 ^ 8 * b + d)) tt) none_targeted)
 
 decoded_targeted : (xs : List ℕ) → AreTargeted (decoded xs)
 unfolding decoded
@@ -293,7 +303,8 @@ liv_placed c r None is = fails
 liv_placed c r (Some o) is = effect_placed c r o is.each
 
 next_placed : (s : State) → IsPlaced (next_effect s)
-next_placed s = liv_placed s.stock.claims s.registers (order_at s.stock.claims.size (word_at s) s.registers.at) (order_targeted (syllables (count_at s.stock.claims.size (word_at s) s.registers.at) s.stock.claims.size (word_at s) s.registers.at))
+next_placed s = liv_placed s.stock.claims s.registers (order_at s.stock.claims.size (word_at s) s.registers.at)
+    (order_targeted (syllables (count_at s.stock.claims.size (word_at s) s.registers.at) s.stock.claims.size (word_at s) s.registers.at))
 
 -- ---- a program run alone
 

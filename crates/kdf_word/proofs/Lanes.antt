@@ -10,14 +10,17 @@ use Rattle.kdf_word.specs.Characters.{character_of, codes_of, first_word}
 use Rattle.kdf_word.proofs.Packing.{first_word-codes_of}
 
 -- one mask over four parts of 16 bits, and over two of 32
-over_four : (w x y z m : ℕ) → x < 2 ^ 16 → y < 2 ^ 16 → z < 2 ^ 16 → m < 2 ^ 16 → bit_and (((w * 2 ^ 16 + x) * 2 ^ 16 + y) * 2 ^ 16 + z) (((m * 2 ^ 16 + m) * 2 ^ 16 + m) * 2 ^ 16 + m) ≡ ((bit_and w m * 2 ^ 16 + bit_and x m) * 2 ^ 16 + bit_and y m) * 2 ^ 16 + bit_and z m
+over_four : (w x y z m : ℕ) → x < 2 ^ 16 → y < 2 ^ 16 → z < 2 ^ 16 → m < 2 ^ 16
+    → bit_and (((w * 2 ^ 16 + x) * 2 ^ 16 + y) * 2 ^ 16 + z) (((m * 2 ^ 16 + m) * 2 ^ 16 + m) * 2 ^ 16 + m)
+    ≡ ((bit_and w m * 2 ^ 16 + bit_and x m) * 2 ^ 16 + bit_and y m) * 2 ^ 16 + bit_and z m
 over_four w x y z m x' y' z' m' =
     and_block 16 ((w * 2 ^ 16 + x) * 2 ^ 16 + y) ((m * 2 ^ 16 + m) * 2 ^ 16 + m) z m z' m'
     ∙ ap (λ q. q * 2 ^ 16 + bit_and z m)
     (and_block 16 (w * 2 ^ 16 + x) (m * 2 ^ 16 + m) y m y' m' ∙ ap (λ q. q * 2 ^ 16 + bit_and y m) (and_block 16 w m x m x' m'))
 
 -- the last six or eight bits of each of four parts of 16
-pub sixes : (w x y z w6 x6 y6 z6 n : ℕ) → x < 2 ^ 16 → y < 2 ^ 16 → z < 2 ^ 16 → w % 64 ≡ w6 → x % 64 ≡ x6 → y % 64 ≡ y6 → z % 64 ≡ z6 → n ≡ ((w * 2 ^ 16 + x) * 2 ^ 16 + y) * 2 ^ 16 + z → bit_and n 0x003F003F003F003F ≡ ((w6 * 2 ^ 16 + x6) * 2 ^ 16 + y6) * 2 ^ 16 + z6
+pub sixes : (w x y z w6 x6 y6 z6 n : ℕ) → x < 2 ^ 16 → y < 2 ^ 16 → z < 2 ^ 16 → w % 64 ≡ w6 → x % 64 ≡ x6 → y % 64 ≡ y6 → z % 64 ≡ z6
+    → n ≡ ((w * 2 ^ 16 + x) * 2 ^ 16 + y) * 2 ^ 16 + z → bit_and n 0x003F003F003F003F ≡ ((w6 * 2 ^ 16 + x6) * 2 ^ 16 + y6) * 2 ^ 16 + z6
 sixes w x y z w6 x6 y6 z6 n x' y' z' ew ex ey ez is =
     let all = over_four w x y z 63 x' y' z' (omega arith) in
     let mw : bit_and w 63 ≡ w6 = and_mask w 6 ∙ ew in
@@ -26,7 +29,8 @@ sixes w x y z w6 x6 y6 z6 n x' y' z' ew ex ey ez is =
     let mz : bit_and z 63 ≡ z6 = and_mask z 6 ∙ ez in
     ap (λ k. bit_and k 0x003F003F003F003F) is ∙ all ∙ omega (arith, mw, mx, my, mz)
 
-pub eights : (w x y z w8 x8 y8 z8 n : ℕ) → x < 2 ^ 16 → y < 2 ^ 16 → z < 2 ^ 16 → w % 256 ≡ w8 → x % 256 ≡ x8 → y % 256 ≡ y8 → z % 256 ≡ z8 → n ≡ ((w * 2 ^ 16 + x) * 2 ^ 16 + y) * 2 ^ 16 + z → bit_and n 0x00FF00FF00FF00FF ≡ ((w8 * 2 ^ 16 + x8) * 2 ^ 16 + y8) * 2 ^ 16 + z8
+pub eights : (w x y z w8 x8 y8 z8 n : ℕ) → x < 2 ^ 16 → y < 2 ^ 16 → z < 2 ^ 16 → w % 256 ≡ w8 → x % 256 ≡ x8 → y % 256 ≡ y8 → z % 256 ≡ z8
+    → n ≡ ((w * 2 ^ 16 + x) * 2 ^ 16 + y) * 2 ^ 16 + z → bit_and n 0x00FF00FF00FF00FF ≡ ((w8 * 2 ^ 16 + x8) * 2 ^ 16 + y8) * 2 ^ 16 + z8
 eights w x y z w8 x8 y8 z8 n x' y' z' ew ex ey ez is =
     let all = over_four w x y z 255 x' y' z' (omega arith) in
     let mw : bit_and w 255 ≡ w8 = and_mask w 8 ∙ ew in
@@ -85,19 +89,24 @@ module _ (a b c d e f g h : ℕ) (a' : a < 64) (b' : b < 64) (c' : c < 64) (d' :
   twos_of : (n : ℕ) → n ≡ in_bytes a b c d e f g h → to_twos n ≡ in_twos a b c d e f g h
   twos_of n is =
       let even : n / 2 ^ 8 ≡ ((a * 2 ^ 16 + (b * 256 + c)) * 2 ^ 16 + (d * 256 + e)) * 2 ^ 16 + (f * 256 + g) = omega (arith, is) in
-      let one = eights a (b * 256 + c) (d * 256 + e) (f * 256 + g) a c e g (n / 2 ^ 8) (omega arith) (omega arith) (omega arith) (omega arith) (omega arith) (omega arith) (omega arith) even in
-      let two = eights (a * 256 + b) (c * 256 + d) (e * 256 + f) (g * 256 + h) b d f h n (omega arith) (omega arith) (omega arith) (omega arith) (omega arith) (omega arith) (omega arith) is in
+      let one = eights a (b * 256 + c) (d * 256 + e) (f * 256 + g) a c e g (n / 2 ^ 8) (omega arith) (omega arith) (omega arith) (omega arith) (omega arith)
+      (omega arith) (omega arith) even in
+      let two = eights (a * 256 + b) (c * 256 + d) (e * 256 + f) (g * 256 + h) b d f h n (omega arith) (omega arith) (omega arith) (omega arith) (omega arith)
+      (omega arith) (omega arith) is in
       omega (arith, one, two)
 
   fours_of : (n : ℕ) → n ≡ in_twos a b c d e f g h → to_fours n ≡ in_fours a b c d e f g h
   fours_of n is =
       let even : n / 2 ^ 16 ≡ (a * 64 + b) * 2 ^ 32 + ((c * 64 + d) * 2 ^ 16 + (e * 64 + f)) = omega (arith, is) in
       let pairs : n ≡ ((a * 64 + b) * 2 ^ 16 + (c * 64 + d)) * 2 ^ 32 + ((e * 64 + f) * 2 ^ 16 + (g * 64 + h)) = omega (arith, is) in
-      let one = sixteens (a * 64 + b) ((c * 64 + d) * 2 ^ 16 + (e * 64 + f)) (a * 64 + b) (e * 64 + f) (n / 2 ^ 16) (omega arith) (omega arith) (omega arith) even in
-      let two = sixteens ((a * 64 + b) * 2 ^ 16 + (c * 64 + d)) ((e * 64 + f) * 2 ^ 16 + (g * 64 + h)) (c * 64 + d) (g * 64 + h) n (omega arith) (omega arith) (omega arith) pairs in
+      let one = sixteens (a * 64 + b) ((c * 64 + d) * 2 ^ 16 + (e * 64 + f)) (a * 64 + b) (e * 64 + f) (n / 2 ^ 16) (omega arith) (omega arith)
+      (omega arith) even in
+      let two = sixteens ((a * 64 + b) * 2 ^ 16 + (c * 64 + d)) ((e * 64 + f) * 2 ^ 16 + (g * 64 + h)) (c * 64 + d) (g * 64 + h) n (omega arith) (omega arith)
+      (omega arith) pairs in
       omega (arith, one, two)
 
-  pub packed : (n : ℕ) → n ≡ a * 256 ^ 7 + b * 256 ^ 6 + c * 256 ^ 5 + d * 256 ^ 4 + e * 256 ^ 3 + f * 256 ^ 2 + g * 256 + h → to_eight (to_fours (to_twos n)) ≡ a * 2 ^ 42 + b * 2 ^ 36 + c * 2 ^ 30 + d * 2 ^ 24 + e * 2 ^ 18 + f * 2 ^ 12 + g * 2 ^ 6 + h
+  pub packed : (n : ℕ) → n ≡ a * 256 ^ 7 + b * 256 ^ 6 + c * 256 ^ 5 + d * 256 ^ 4 + e * 256 ^ 3 + f * 256 ^ 2 + g * 256 + h
+      → to_eight (to_fours (to_twos n)) ≡ a * 2 ^ 42 + b * 2 ^ 36 + c * 2 ^ 30 + d * 2 ^ 24 + e * 2 ^ 18 + f * 2 ^ 12 + g * 2 ^ 6 + h
   packed n is =
       let bytes : n ≡ in_bytes a b c d e f g h = omega (arith, is) in
       let fours = fours_of (to_twos n) (twos_of n bytes) in
@@ -107,16 +116,19 @@ module _ (a b c d e f g h : ℕ) (a' : a < 64) (b' : b < 64) (c' : c < 64) (d' :
   twos_again : (n : ℕ) → n ≡ in_fours a b c d e f g h → from_fours n ≡ in_twos a b c d e f g h
   twos_again n is =
       let even : n / 2 ^ 12 ≡ (a * 64 + b) * 2 ^ 32 + ((c * 64 + d) * 2 ^ 20 + (e * 64 + f)) = omega (arith, is) in
-      let one = twelves (a * 64 + b) ((c * 64 + d) * 2 ^ 20 + (e * 64 + f)) (a * 64 + b) (e * 64 + f) (n / 2 ^ 12) (omega arith) (omega arith) (omega arith) even in
+      let one = twelves (a * 64 + b) ((c * 64 + d) * 2 ^ 20 + (e * 64 + f)) (a * 64 + b) (e * 64 + f) (n / 2 ^ 12) (omega arith) (omega arith)
+      (omega arith) even in
       omega (arith, one, is)
 
   bytes_again : (n : ℕ) → n ≡ in_twos a b c d e f g h → from_twos n ≡ in_bytes a b c d e f g h
   bytes_again n is =
       let even : n / 2 ^ 6 ≡ ((a * 2 ^ 16 + (b * 2 ^ 10 + c)) * 2 ^ 16 + (d * 2 ^ 10 + e)) * 2 ^ 16 + (f * 2 ^ 10 + g) = omega (arith, is) in
-      let one = sixes a (b * 2 ^ 10 + c) (d * 2 ^ 10 + e) (f * 2 ^ 10 + g) a c e g (n / 2 ^ 6) (omega arith) (omega arith) (omega arith) (omega arith) (omega arith) (omega arith) (omega arith) even in
+      let one = sixes a (b * 2 ^ 10 + c) (d * 2 ^ 10 + e) (f * 2 ^ 10 + g) a c e g (n / 2 ^ 6) (omega arith) (omega arith) (omega arith) (omega arith)
+      (omega arith) (omega arith) (omega arith) even in
       omega (arith, one, is)
 
-  pub unpacked : (w : ℕ) → w ≡ a * 2 ^ 42 + b * 2 ^ 36 + c * 2 ^ 30 + d * 2 ^ 24 + e * 2 ^ 18 + f * 2 ^ 12 + g * 2 ^ 6 + h → from_twos (from_fours (from_eight w)) ≡ a * 256 ^ 7 + b * 256 ^ 6 + c * 256 ^ 5 + d * 256 ^ 4 + e * 256 ^ 3 + f * 256 ^ 2 + g * 256 + h
+  pub unpacked : (w : ℕ) → w ≡ a * 2 ^ 42 + b * 2 ^ 36 + c * 2 ^ 30 + d * 2 ^ 24 + e * 2 ^ 18 + f * 2 ^ 12 + g * 2 ^ 6 + h
+      → from_twos (from_fours (from_eight w)) ≡ a * 256 ^ 7 + b * 256 ^ 6 + c * 256 ^ 5 + d * 256 ^ 4 + e * 256 ^ 3 + f * 256 ^ 2 + g * 256 + h
   unpacked w is =
       let fours : from_eight w ≡ in_fours a b c d e f g h = omega (arith, is) in
       bytes_again (from_fours (from_eight w)) (twos_again (from_eight w) fours) ∙ omega arith
@@ -139,8 +151,10 @@ below_64 n = omega arith
 
 pub codes_below : (w : ℕ) → All (λ k. k < 64) (codes_of w)
 codes_below w =
-    small_eight (character_of 0 w) (character_of 1 w) (character_of 2 w) (character_of 3 w) (character_of 4 w) (character_of 5 w) (character_of 6 w) (character_of 7 w)
-    (below_64 (w / 2 ^ 42)) (below_64 (w / 2 ^ 36)) (below_64 (w / 2 ^ 30)) (below_64 (w / 2 ^ 24)) (below_64 (w / 2 ^ 18)) (below_64 (w / 2 ^ 12)) (below_64 (w / 2 ^ 6)) (below_64 (w / 1))
+    small_eight (character_of 0 w) (character_of 1 w) (character_of 2 w) (character_of 3 w) (character_of 4 w) (character_of 5 w) (character_of 6 w)
+    (character_of 7 w)
+    (below_64 (w / 2 ^ 42)) (below_64 (w / 2 ^ 36)) (below_64 (w / 2 ^ 30)) (below_64 (w / 2 ^ 24)) (below_64 (w / 2 ^ 18)) (below_64 (w / 2 ^ 12))
+    (below_64 (w / 2 ^ 6)) (below_64 (w / 1))
 
 bytes_below : (w i : ℕ) → get_or (codes_of w) i 0 < 256
 bytes_below w i =
@@ -149,7 +163,8 @@ bytes_below w i =
     (λ (le : 8 ≤ i). omega (arith, get_or_past (codes_of w) i 0 le))
     (cases_lt i 8)
 
-whole : (w : ℕ) → w < 2 ^ 48 → w ≡ character_of 0 w * 2 ^ 42 + character_of 1 w * 2 ^ 36 + character_of 2 w * 2 ^ 30 + character_of 3 w * 2 ^ 24 + character_of 4 w * 2 ^ 18 + character_of 5 w * 2 ^ 12 + character_of 6 w * 2 ^ 6 + character_of 7 w
+whole : (w : ℕ) → w < 2 ^ 48 → w ≡ character_of 0 w * 2 ^ 42 + character_of 1 w * 2 ^ 36 + character_of 2 w * 2 ^ 30 + character_of 3 w * 2 ^ 24 + character_of
+    4 w * 2 ^ 18 + character_of 5 w * 2 ^ 12 + character_of 6 w * 2 ^ 6 + character_of 7 w
 unfolding first_word
 whole w below = sym (first_word-codes_of w [] below)
 
@@ -157,6 +172,8 @@ whole w below = sym (first_word-codes_of w [] below)
 pub bytes_are : (w : ℕ) → w < 2 ^ 48 → to_be_bytes w64 (from_twos (from_fours (from_eight w))) ≡ codes_of w
 bytes_are w below =
     be_bytes_8 (codes_of w) (from_twos (from_fours (from_eight w))) refl (bytes_below w)
-    (unpacked (character_of 0 w) (character_of 1 w) (character_of 2 w) (character_of 3 w) (character_of 4 w) (character_of 5 w) (character_of 6 w) (character_of 7 w)
-    (below_64 (w / 2 ^ 42)) (below_64 (w / 2 ^ 36)) (below_64 (w / 2 ^ 30)) (below_64 (w / 2 ^ 24)) (below_64 (w / 2 ^ 18)) (below_64 (w / 2 ^ 12)) (below_64 (w / 2 ^ 6)) (below_64 (w / 1))
+    (unpacked (character_of 0 w) (character_of 1 w) (character_of 2 w) (character_of 3 w) (character_of 4 w) (character_of 5 w) (character_of 6 w)
+    (character_of 7 w)
+    (below_64 (w / 2 ^ 42)) (below_64 (w / 2 ^ 36)) (below_64 (w / 2 ^ 30)) (below_64 (w / 2 ^ 24)) (below_64 (w / 2 ^ 18)) (below_64 (w / 2 ^ 12))
+    (below_64 (w / 2 ^ 6)) (below_64 (w / 1))
     w (whole w below))

@@ -1,5 +1,6 @@
 -- The sum and the difference of two words as they come out where each stands in the first 48 of 64 bits.
-use Rattle.std.proofs.Common.{◌≡◌, ℕ, ℤ, ◌+◌, ◌-◌, ◌*◌, ◌/◌, ◌%◌, ◌^◌, ◌<◌, ◌+ℤ◌, ◌-ℤ◌, ◌*ℤ◌, pos, negsuc, Bool, true, false, not, arith, refl, ap, ap₂, sym, ◌∙◌}
+use Rattle.std.proofs.Common.{◌≡◌, ℕ, ℤ, ◌+◌, ◌-◌, ◌*◌, ◌/◌, ◌%◌, ◌^◌, ◌<◌, ◌+ℤ◌, ◌-ℤ◌, ◌*ℤ◌, pos, negsuc, Bool, true, false, not, arith, refl, ap, ap₂, sym}
+use Rattle.std.proofs.Common.{◌∙◌}
 use Rattle.std.specs.Bool.{FalseIff}
 use Rattle.std.specs.Int.RustNames.{FitsSigned}
 use Rattle.std.proofs.lemmas.Bool.Decides.{nat_tests}
@@ -44,7 +45,8 @@ pub difference_of_words : (a b : ℕ) (x y s : ℤ) (n : ℕ) → a < 2 ^ 48 →
     n / 65536 ≡ word_of (signed a -ℤ signed b)
 difference_of_words a b x y s n small less ex ey es en =
     let m : ℕ = (a * 65536 + (2 ^ 64 - b * 65536)) % 2 ^ 64 in
-    let parts = ap₂ (λ u v. (u + (2 ^ 64 - v)) % 2 ^ 64) (again (a * 65536) x (omega arith) (bits a x small ex)) (again (b * 65536) y (omega arith) (bits b y less ey)) in
+    let parts = ap₂ (λ u v. (u + (2 ^ 64 - v)) % 2 ^ 64) (again (a * 65536) x (omega arith) (bits a x small ex))
+    (again (b * 65536) y (omega arith) (bits b y less ey)) in
     let whole : cast_unsigned w64 s ≡ m = ap (cast_unsigned w64) es ∙ of_z-to_z w64 _ (omega arith) ∙ parts in
     let all : n ≡ m = en ∙ again m s (omega arith) whole in
     let first : n / 65536 ≡ (a + (2 ^ 48 - b)) % 2 ^ 48 = omega (arith, all) in

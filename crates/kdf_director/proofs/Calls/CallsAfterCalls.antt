@@ -34,7 +34,12 @@ record IsStep (J K : List Entry) : Type 0 where
   is : K ≡ added J step
 
 step_of : (heard : ℕ) (m n : Shown) (r : Progress) → Advance heard m n r → found_live r ≡ true → IsStep m.journal n.journal
-step_of heard m n (progress.Ran p) took live = record { step = Obeys p (note_of (state_at m p) (truth (world_of m) m.journal p heard)); order = refl; is = took.journal }
+step_of heard m n (progress.Ran p) took live = record {
+  step = Obeys p (note_of (state_at m p) (truth (world_of m) m.journal p heard));
+  order = refl;
+  is =
+      took.journal;
+}
 step_of heard m n (progress.Held p need) took live = record { step = Holds p (hold_of need); order = refl; is = took.journal }
 step_of heard m n progress.Idle took live = record { step = Waits; order = refl; is = took.journal }
 step_of heard m n progress.AllEnded took live = absurd (true≢false (sym live))
@@ -58,17 +63,21 @@ module _ (answers : ℕ → ℕ → Type 0) where
       }
 
   -- one more
-  pub made_more : (n : ℕ) (old m new : Shown) (r : Progress) → HasMadeOn answers n old m → AdvanceWith answers m new r → found_live r ≡ true → IsAnswered answers m.slots m.journal new.journal → IsLegal new.slots new.journal → new.slots ≡ m.slots → new.room ≡ m.room → HasMadeOn answers (suc n) old new
+  pub made_more : (n : ℕ) (old m new : Shown) (r : Progress) → HasMadeOn answers n old m → AdvanceWith answers m new r → found_live r ≡ true
+      → IsAnswered answers m.slots m.journal new.journal → IsLegal new.slots new.journal → new.slots ≡ m.slots → new.room ≡ m.room
+      → HasMadeOn answers (suc n) old new
   made_more n old m new r h took found served legal slots room =
       let s = step_of took.heard m new r took.advance found in
       let on : steps new.journal ≡ s.step ∷ steps m.journal = ap steps s.is ∙ steps-added m.journal s.step in
       let count : n + 1 ≡ suc n = omega arith in
-      let before : any_live old.slots (journal_of (steps m.journal)) ≡ true = ap₂ any_live (sym h.slots) h.legal.in_form ∙ found_is took.heard m new r took.advance ∙ found in
+      let before : any_live old.slots (journal_of (steps m.journal)) ≡ true = ap₂ any_live (sym h.slots) h.legal.in_form
+      ∙ found_is took.heard m new r took.advance ∙ found in
       record {
         made = (m, r, h.made, took, found);
         more = s.step ∷ h.more;
         goes_on = on ∙ ap (λ (P : List Step). s.step ∷ P) h.goes_on;
-        in_order = ap₂ (λ (cs : List Call) (c : Call). cs ++ c ∷ []) h.in_order s.order ∙ sym (replicate_next n AnOrder) ∙ ap (λ (i : ℕ). replicate i AnOrder) count;
+        in_order = ap₂ (λ (cs : List Call) (c : Call). cs ++ c ∷ []) h.in_order s.order ∙ sym (replicate_next n AnOrder)
+            ∙ ap (λ (i : ℕ). replicate i AnOrder) count;
         lived = λ l. subst (EachLive (lone_dispatched old.slots)) (sym on) (h.lived l, before);
         truthful = λ t.
             subst (λ (S : List Slot). IsTrueFor answers S new.journal) (sym slots)
@@ -81,7 +90,8 @@ module _ (answers : ℕ → ℕ → Type 0) where
       }
 
   -- one by itself
-  pub made_one : (m new : Shown) (r : Progress) → IsLegal m.slots m.journal → AdvanceWith answers m new r → IsAnswered answers m.slots m.journal new.journal → (found_live r ≡ true → IsLegal new.slots new.journal × (new.slots ≡ m.slots) × (new.room ≡ m.room)) → HasMadeSome answers 1 m new r
+  pub made_one : (m new : Shown) (r : Progress) → IsLegal m.slots m.journal → AdvanceWith answers m new r → IsAnswered answers m.slots m.journal new.journal
+      → (found_live r ≡ true → IsLegal new.slots new.journal × (new.slots ≡ m.slots) × (new.room ≡ m.room)) → HasMadeSome answers 1 m new r
   made_one m new r legal took served after =
       record {
         before = 0;
@@ -93,7 +103,8 @@ module _ (answers : ℕ → ℕ → Type 0) where
         all_on = λ found. let then = after found in made_more 0 m m new r (made_none m legal) took found served then.0 then.1 then.2;
       }
 
-  made_next : (n : ℕ) (old m new : Shown) (r : Progress) → HasMade answers n old m → AdvanceWith answers m new r → found_live r ≡ true → HasMade answers (suc n) old new
+  made_next : (n : ℕ) (old m new : Shown) (r : Progress) → HasMade answers n old m → AdvanceWith answers m new r → found_live r ≡ true
+      → HasMade answers (suc n) old new
   made_next n old m new r h took found = (m, r, h, took, found)
 
   made_both : (n k : ℕ) (old m new : Shown) → HasMade answers n old m → HasMade answers k m new → HasMade answers (k + n) old new
@@ -129,7 +140,8 @@ module _ (answers : ℕ → ℕ → Type 0) where
       }
 
   -- they answer so many calls
-  pub made_reaches : (n : ℕ) (old new : Shown) → HasMadeOn answers n old new → Reaches (lone_dispatched old.slots) (steps old.journal) (replicate n AnOrder) (steps new.journal)
+  pub made_reaches : (n : ℕ) (old new : Shown) → HasMadeOn answers n old new → Reaches (lone_dispatched old.slots) (steps old.journal) (replicate n AnOrder)
+      (steps new.journal)
   made_reaches n old new h =
       record {
         more = h.more;

@@ -66,7 +66,8 @@ at_four P {a} {k} {b} {l} {c} {m} {d} {n} one two three four p =
     subst (λ w. P w l m n) one (subst (λ x. P a x m n) two (subst (λ y. P a b y n) three (subst (λ z. P a b c z) four p)))
 
 -- no more calls are answered than are left: those that were entered, and those that wait
-pub entered_within : {E F : Type 0} (J K : List Entry) (p quiet ran most : ℕ) (hold held : Option Need) (tried : Result (Step × Note) E) (answer : Result (ℕ × Progress) F) → HasEntered J p quiet ran hold tried K held answer → quiet < most → IfOk answer (λ x. x.0 ≤ most)
+pub entered_within : {E F : Type 0} (J K : List Entry) (p quiet ran most : ℕ) (hold held : Option Need) (tried : Result (Step × Note) E)
+    (answer : Result (ℕ × Progress) F) → HasEntered J p quiet ran hold tried K held answer → quiet < most → IfOk answer (λ x. x.0 ≤ most)
 entered_within J K p quiet ran most hold held (Ok t) (Ok x) has left = let count = has.count in omega (arith, left)
 entered_within J K p quiet ran most hold held (Ok t) (Err e) has left = tt
 entered_within J K p quiet ran most hold held (Err t) (Ok x) has left = absurd has
@@ -99,7 +100,8 @@ module _ (answers : ℕ → ℕ → Type 0) (y : Standing) (J : Recorded) (room 
   fours = of_four y.slots y.reaches y.seats y.shared J.entries ready.agrees
 
   -- a yard that calls leave
-  ready_then : (z : Standing) (K : Recorded) → room ≤ K.spare → Agrees z.slots z.reaches z.seats z.shared K.entries → z.holds ≡ holds_in z.seats K.entries → moves K.entries ≡ moves J.entries → IsReady z K room
+  ready_then : (z : Standing) (K : Recorded) → room ≤ K.spare → Agrees z.slots z.reaches z.seats z.shared K.entries → z.holds ≡ holds_in z.seats K.entries
+      → moves K.entries ≡ moves J.entries → IsReady z K room
   ready_then z K fits agrees holds same =
       record {
         agrees = agrees;
@@ -133,7 +135,8 @@ module _ (answers : ℕ → ℕ → Type 0) (y : Standing) (J : Recorded) (room 
       })
 
   -- no program goes on
-  module _ (halt : Halt) (most : ℕ) (some : 0 < most) (few : calls J.entries + most ≤ CALL_LIMIT) (none : first_in y (priorities J.entries) ≡ None) (spare : ℕ) (fits : room ≤ spare) where
+  module _ (halt : Halt) (most : ℕ) (some : 0 < most) (few : calls J.entries + most ≤ CALL_LIMIT) (none : first_in y (priorities J.entries) ≡ None) (spare : ℕ)
+      (fits : room ≤ spare) where
     -- and this is what so many calls come to
     abbrev Waits : List Entry → ℕ × Progress → Type 0
     Waits K x =
@@ -172,13 +175,15 @@ module _ (answers : ℕ → ℕ → Type 0) (y : Standing) (J : Recorded) (room 
           omega arith,
         )
 
-    pub waits : (K : List Entry) (x : ℕ × Progress) → K ≡ cond (any_in y) (pushed J.entries (Idle most)) J.entries → x ≡ cond (any_in y) (most, progress.Idle) (1, progress.AllEnded) → Waits K x
+    pub waits : (K : List Entry) (x : ℕ × Progress) → K ≡ cond (any_in y) (pushed J.entries (Idle most)) J.entries
+        → x ≡ cond (any_in y) (most, progress.Idle) (1, progress.AllEnded) → Waits K x
     waits K x entered told =
         subst (λ L. Waits L x) (sym entered)
         (subst (Waits (cond (any_in y) (pushed J.entries (Idle most)) J.entries)) (sym told)
         (by_any (any_in y) (any_same y.slots y.reaches y.seats y.shared J.entries ready.agrees)))
       where
-        by_any : (b : Bool) → b ≡ any_live y.slots J.entries → Waits (cond b (pushed J.entries (Idle most)) J.entries) (cond b (most, progress.Idle) (1, progress.AllEnded))
+        by_any : (b : Bool) → b ≡ any_live y.slots J.entries
+            → Waits (cond b (pushed J.entries (Idle most)) J.entries) (cond b (most, progress.Idle) (1, progress.AllEnded))
         by_any true live = subst (λ L. Waits L (most, progress.Idle)) (sym (some-waited_on J.entries most some)) (all_idle (sym live))
         by_any false dead = none_live (sym dead)
 
@@ -215,7 +220,8 @@ module _ (answers : ℕ → ℕ → Type 0) (y : Standing) (J : Recorded) (room 
     abbrev Past : List Seat → Shared → List Seat → Shared → Step → Note → Type 0
     Past = Passes (of_seats i) place Tries
 
-    further : (n : ℕ) (mid : List Seat) (between : Shared) → Going n mid between → (k : ℕ) (after : List Seat) (left : Shared) → calls J.entries + (n + k) ≤ CALL_LIMIT → AreQuiet Past k mid between after left → Going (n + k) after left
+    further : (n : ℕ) (mid : List Seat) (between : Shared) → Going n mid between → (k : ℕ) (after : List Seat) (left : Shared)
+        → calls J.entries + (n + k) ≤ CALL_LIMIT → AreQuiet Past k mid between after left → Going (n + k) after left
     further n mid between g k after left few quiet =
         going_further answers y J.entries room i n k mid between after left g few (quiet_map Past Tries (λ b x a l h. h.0) k mid between after left quiet)
 
@@ -240,7 +246,8 @@ module _ (answers : ℕ → ℕ → Type 0) (y : Standing) (J : Recorded) (room 
       pub ran : (registers_in z i).ran ≤ CALL_LIMIT
       ran = few_on answers y J.entries room i n z.seats z.shared on.course
 
-      module _ {E : Type 0} (k : ℕ) (few : calls J.entries + (n + k) < CALL_LIMIT) (w : Standing) (same : IsSameYard z w) (tried : Result (Step × Note) E) (time : ℕ) (now : time ≡ clock J.entries) (inside : halt ≡ Each → ⊥) (did : IfOk tried (λ x. HasTriedIn answers time i k place z w x.0 x.1)) where
+      module _ {E : Type 0} (k : ℕ) (few : calls J.entries + (n + k) < CALL_LIMIT) (w : Standing) (same : IsSameYard z w) (tried : Result (Step × Note) E)
+          (time : ℕ) (now : time ≡ clock J.entries) (inside : halt ≡ Each → ⊥) (did : IfOk tried (λ x. HasTriedIn answers time i k place z w x.0 x.1)) where
         same_yard : IsSameYard y w
         same_yard =
             record {
@@ -253,12 +260,14 @@ module _ (answers : ℕ → ℕ → Type 0) (y : Standing) (J : Recorded) (room 
         did_then : IfOk tried (λ x. HasBatch (of_seats i) place Tries k z.seats z.shared w.seats w.shared x.0 x.1)
         did_then =
             subst (λ t. IfOk tried (λ x. HasBatch (of_seats i) place (HasTriedOn answers y.reaches t i) k z.seats z.shared w.seats w.shared x.0 x.1)) now
-            (subst (λ rs. IfOk tried (λ x. HasBatch (of_seats i) place (HasTriedOn answers rs time i) k z.seats z.shared w.seats w.shared x.0 x.1)) on.same.reaches did)
+            (subst (λ rs. IfOk tried (λ x. HasBatch (of_seats i) place (HasTriedOn answers rs time i) k z.seats z.shared w.seats w.shared x.0 x.1))
+            on.same.reaches did)
 
         -- nothing is noted of that either
         pub going_more : tried ≡ Ok (step.Done, note.Quiet) → is_at place (registers_in w i) ≡ false → IsOn answers halt y J room i (n + k + 1) w
         going_more is past =
-            let batch = subst (λ (t : Result (Step × Note) E). IfOk t (λ x. HasBatch (of_seats i) place Tries k z.seats z.shared w.seats w.shared x.0 x.1)) is did_then in
+            let batch = subst (λ (t : Result (Step × Note) E). IfOk t (λ x. HasBatch (of_seats i) place Tries k z.seats z.shared w.seats w.shared x.0 x.1)) is
+            did_then in
             let one : suc (n + k) ≡ n + k + 1 = omega arith in
             let until = further n z.seats z.shared on.course k batch.mid batch.between (omega (arith, few)) batch.earlier in
             let room_left : calls (ran_on J.entries p (n + k)) < CALL_LIMIT = omega (arith, few, calls-ran_on J.entries p (n + k)) in
@@ -269,12 +278,15 @@ module _ (answers : ℕ → ℕ → Type 0) (y : Standing) (J : Recorded) (room 
               same = same_yard;
               passed =
                   subst (λ m. Passed m w.seats w.shared) one
-                  (passing_one answers y J.entries room i halt inside (n + k) batch.mid batch.between until w.seats w.shared batch.last.0 batch.last.1 room_left past old
-                  (passing_further answers y J.entries room i halt inside n k z.seats z.shared batch.mid batch.between old on.course (omega (arith, few)) batch.earlier on.passed));
+                  (passing_one answers y J.entries room i halt inside (n + k) batch.mid batch.between until w.seats w.shared batch.last.0 batch.last.1
+                  room_left past old
+                  (passing_further answers y J.entries room i halt inside n k z.seats z.shared batch.mid batch.between old on.course
+                  (omega (arith, few)) batch.earlier on.passed));
             }
 
         -- it is entered: only what holds the program changes
-        module _ (err : OnErr tried (HasTriedQuietly answers time i k place z w)) (u : Standing) (rest : u ≡ record w { holds = set w.holds i (hold_in u i) }) (K : Recorded) (fits : room ≤ K.spare) where
+        module _ (err : OnErr tried (HasTriedQuietly answers time i k place z w)) (u : Standing) (rest : u ≡ record w { holds = set w.holds i (hold_in u i) })
+            (K : Recorded) (fits : room ≤ K.spare) where
           abbrev h : Option Need
           h = hold_in u i
 
@@ -287,24 +299,30 @@ module _ (answers : ℕ → ℕ → Type 0) (y : Standing) (J : Recorded) (room 
               ∙ ap₂ (λ a b. record { slots = a; reaches = b; seats = w.seats; holds = set w.holds i h; shared = w.shared }) same_yard.slots same_yard.reaches
               ∙ ap (λ hs. record { slots = y.slots; reaches = y.reaches; seats = w.seats; holds = set hs i h; shared = w.shared }) same_yard.holds
 
-          turned : (m : ℕ) (mid : List Seat) (between : Shared) → Going m mid between → Passed m mid between → calls J.entries + m < CALL_LIMIT → (ended : Step) (noted : Note) (made : ℕ) (answer : Progress) → Tries mid between w.seats w.shared ended noted
-              → IsEntered J.entries (number_in w i) m (registers_in w i).ran ended noted K.entries h made answer → IsReady v K room × HasMadeSomePast answers halt made old (shown_of v K room) answer
+          turned : (m : ℕ) (mid : List Seat) (between : Shared) → Going m mid between → Passed m mid between → calls J.entries + m < CALL_LIMIT
+              → (ended : Step) (noted : Note) (made : ℕ) (answer : Progress) → Tries mid between w.seats w.shared ended noted
+              → IsEntered J.entries (number_in w i) m (registers_in w i).ran ended noted K.entries h made answer
+              → IsReady v K room × HasMadeSomePast answers halt made old (shown_of v K room) answer
           turned m mid between g passed few ended noted made answer tried e =
               let few_then : calls (ran_on J.entries p m) < CALL_LIMIT = omega (arith, few, calls-ran_on J.entries p m) in
               let number : number_in w i ≡ p = tried.0.turned.numbers i ∙ g.number in
               let entered : K.entries ≡ added (ran_on J.entries p m) (step_told (number_in w i) (registers_in w i).ran ended noted) =
               e.entries ∙ ap (λ q. added (ran_on J.entries q m) (step_told (number_in w i) (registers_in w i).ran ended noted)) number in
               let held : set y.holds i h ≡ set y.holds i (hold_left ended) = ap (set y.holds i) e.hold in
-              let d = advanced_on answers y J.entries room i m mid between g w.seats w.shared ended noted tried.0 tried.1 few_then (set y.holds i h) K.entries answer held entered e.answer in (
+              let d = advanced_on answers y J.entries room i m mid between g w.seats w.shared ended noted tried.0 tried.1 few_then (set y.holds i h) K.entries
+              answer held entered e.answer in (
                 ready_then v K fits d.agrees d.holds_are (moves-took d.advance.heard _ _ answer d.advance.advance ∙ moves-ran_on J.entries p m),
-                made_some answers y J.entries room i m mid between g w.seats w.shared ended noted tried.0 tried.1 few_then (set y.holds i h) K.entries answer held entered e.answer halt passed made e.count,
+                made_some answers y J.entries room i m mid between g w.seats w.shared ended noted tried.0 tried.1 few_then (set y.holds i h) K.entries answer
+                    held entered e.answer halt passed made e.count,
               )
 
           held_still : (hold : Option Need) → hold ≡ hold_in y i → (m : ℕ) → set y.holds i (held_after m hold) ≡ held_on y.holds i m
           held_still hold is zero = ap (set y.holds i) is ∙ set-get_or y.holds i None
           held_still hold is (suc m) = refl
 
-          stopped : (m : ℕ) → Going m w.seats w.shared → Passed m w.seats w.shared → K.entries ≡ ran_on J.entries (number_in w i) m → h ≡ held_after m (hold_in w i) → IsReady v K room × HasMadeOn answers m old (shown_of v K room) × (calls K.entries ≡ calls J.entries + m) × ArePassed answers halt m old (shown_of v K room)
+          stopped : (m : ℕ) → Going m w.seats w.shared → Passed m w.seats w.shared → K.entries ≡ ran_on J.entries (number_in w i) m
+              → h ≡ held_after m (hold_in w i) → IsReady v K room × HasMadeOn answers m old (shown_of v K room) × (calls K.entries ≡ calls J.entries + m)
+              × ArePassed answers halt m old (shown_of v K room)
           stopped m g passed entries hold =
               let journal : K.entries ≡ ran_on J.entries p m = entries ∙ ap (λ q. ran_on J.entries q m) g.number in
               let was : hold_in w i ≡ hold_in y i = ap (λ hs. get_or hs i None) same_yard.holds in
@@ -331,19 +349,24 @@ module _ (answers : ℕ → ℕ → Type 0) (y : Standing) (J : Recorded) (room 
           err_then : OnErr tried (AreQuiet Past k z.seats z.shared w.seats w.shared)
           err_then =
               subst (λ t. OnErr tried (AreQuiet (Passes (of_seats i) place (HasTriedOn answers y.reaches t i)) k z.seats z.shared w.seats w.shared)) now
-              (subst (λ rs. OnErr tried (AreQuiet (Passes (of_seats i) place (HasTriedOn answers rs time i)) k z.seats z.shared w.seats w.shared)) on.same.reaches err)
+              (subst (λ rs. OnErr tried (AreQuiet (Passes (of_seats i) place (HasTriedOn answers rs time i)) k z.seats z.shared w.seats w.shared))
+              on.same.reaches err)
 
-          pub ends : {F : Type 0} (L : List Entry) → L ≡ J.entries → (r : Result (ℕ × Progress) F) → HasEntered L (number_in w i) (n + k) (registers_in w i).ran (hold_in w i) tried K.entries h r → Ends r u
+          pub ends : {F : Type 0} (L : List Entry) → L ≡ J.entries → (r : Result (ℕ × Progress) F)
+              → HasEntered L (number_in w i) (n + k) (registers_in w i).ran (hold_in w i) tried K.entries h r → Ends r u
           ends {F} L still r entered =
               subst (Ends r) (sym left)
               (by tried r did_then err_then
               (subst (λ (E : List Entry). HasEntered E (number_in w i) (n + k) (registers_in w i).ran (hold_in w i) tried K.entries h r) still entered))
             where
-              by : (t : Result (Step × Note) E) (r : Result (ℕ × Progress) F) → IfOk t (λ x. HasBatch (of_seats i) place Tries k z.seats z.shared w.seats w.shared x.0 x.1) → OnErr t (AreQuiet Past k z.seats z.shared w.seats w.shared)
+              by : (t : Result (Step × Note) E) (r : Result (ℕ × Progress) F)
+                  → IfOk t (λ x. HasBatch (of_seats i) place Tries k z.seats z.shared w.seats w.shared x.0 x.1)
+                  → OnErr t (AreQuiet Past k z.seats z.shared w.seats w.shared)
                   → HasEntered J.entries (number_in w i) (n + k) (registers_in w i).ran (hold_in w i) t K.entries h r → Ends r v
               by (Ok t) (Ok x) did err e =
                   let all = turned (n + k) did.mid did.between (further n z.seats z.shared on.course k did.mid did.between little did.earlier)
-                  (passing_further answers y J.entries room i halt inside n k z.seats z.shared did.mid did.between old on.course little did.earlier on.passed) few t.0 t.1 x.0 x.1 did.last e in
+                  (passing_further answers y J.entries room i halt inside n k z.seats z.shared did.mid did.between old on.course little did.earlier on.passed)
+                  few t.0 t.1 x.0 x.1 did.last e in
                   (all.0, all.1, tt)
               by (Err _) (Err _) did err e =
                   let all = stopped (n + k) (further n z.seats z.shared on.course k w.seats w.shared little err)

@@ -64,12 +64,15 @@ module _ (answers : ℕ → ℕ → Type 0) (old : Shown) where
           over : found_live r ≡ false → Reaches (lone_dispatched old.slots) (steps old.journal) (replicate n AnOrder) (steps new.journal)
           over dead =
               let count = x.count in
-              rested_at old.slots (steps old.journal) x.before n x.last.heard x.between new r x.earlier.legal x.earlier.slots (made_reaches answers x.before old x.between x.earlier) x.last.advance dead (omega (arith, within))
+              rested_at old.slots (steps old.journal) x.before n x.last.heard x.between new r x.earlier.legal x.earlier.slots
+              (made_reaches answers x.before old x.between x.earlier) x.last.advance dead (omega (arith, within))
 
-          by : (k ≡ n) ⊎ (found_live r ≡ false) → (b : Bool) → found_live r ≡ b → Reaches (lone_dispatched old.slots) (steps old.journal) (replicate n AnOrder) (steps new.journal)
+          by : (k ≡ n) ⊎ (found_live r ≡ false) → (b : Bool) → found_live r ≡ b → Reaches (lone_dispatched old.slots) (steps old.journal) (replicate n AnOrder)
+              (steps new.journal)
           by (inr dead) b is = over dead
           by (inl all) false dead = over dead
-          by (inl all) true live = subst (λ i. Reaches (lone_dispatched old.slots) (steps old.journal) (replicate i AnOrder) (steps new.journal)) all (made_reaches answers k old new (x.all_on live))
+          by (inl all) true live = subst (λ i. Reaches (lone_dispatched old.slots) (steps old.journal) (replicate i AnOrder) (steps new.journal)) all
+              (made_reaches answers k old new (x.all_on live))
 
   -- the same of those that are one fact
   module _ (n : ℕ) (new : Shown) (r : Progress) (x : HasMadeAtMost answers n old new r) where

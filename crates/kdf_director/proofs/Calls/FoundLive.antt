@@ -33,7 +33,8 @@ nothing_done heard m n (progress.Held p need) took none = absurd (true≢false n
 nothing_done heard m n progress.Idle took none = absurd (true≢false none)
 
 -- so the orders are over
-pub rested_at : (slots0 : List Slot) (P : List Step) (i k : ℕ) (heard : ℕ) (m n : Shown) (r : Progress) → IsLegal m.slots m.journal → m.slots ≡ slots0 → Reaches (lone_dispatched slots0) P (replicate i AnOrder) (steps m.journal) → Advance heard m n r → found_live r ≡ false → i ≤ k
+pub rested_at : (slots0 : List Slot) (P : List Step) (i k : ℕ) (heard : ℕ) (m n : Shown) (r : Progress) → IsLegal m.slots m.journal → m.slots ≡ slots0
+    → Reaches (lone_dispatched slots0) P (replicate i AnOrder) (steps m.journal) → Advance heard m n r → found_live r ≡ false → i ≤ k
     → Reaches (lone_dispatched slots0) P (replicate k AnOrder) (steps n.journal)
 rested_at slots0 P i k heard m n r l same taken took none le =
     subst (λ (x : Shown). Reaches (lone_dispatched slots0) P (replicate k AnOrder) (steps x.journal)) (sym (nothing_done heard m n r took none))

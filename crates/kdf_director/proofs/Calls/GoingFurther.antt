@@ -15,7 +15,8 @@ module _ (service : ℕ → ℕ → Type 0) (y : Standing) (J : List Entry) (roo
   abbrev Goes : ℕ → List Seat → Shared → Type 0
   Goes = IsGoingOn service y J room i
 
-  pub going_further : (n k : ℕ) (seats : List Seat) (s : Shared) (seats' : List Seat) (s' : Shared) → Goes n seats s → calls J + (n + k) ≤ CALL_LIMIT → AreQuiet (HasTriedOn service y.reaches (clock J) i) k seats s seats' s' → Goes (n + k) seats' s'
+  pub going_further : (n k : ℕ) (seats : List Seat) (s : Shared) (seats' : List Seat) (s' : Shared) → Goes n seats s → calls J + (n + k) ≤ CALL_LIMIT
+      → AreQuiet (HasTriedOn service y.reaches (clock J) i) k seats s seats' s' → Goes (n + k) seats' s'
   going_further n zero seats s seats' s' g few same =
       let all : n ≡ n + zero = omega arith in
       subst (λ m. Goes m seats' s') all

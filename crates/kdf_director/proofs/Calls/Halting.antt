@@ -30,7 +30,8 @@ module _ (answers : ℕ → ℕ → Type 0) where
   passed_none (At p at) m = refl
 
   -- some after others
-  both_passed : (halt : Halt) (i k : ℕ) (old m new : Shown) → HasPassed answers halt i old m → HasPassed answers halt k m new → HasPassed answers halt (k + i) old new
+  both_passed : (halt : Halt) (i k : ℕ) (old m new : Shown) → HasPassed answers halt i old m → HasPassed answers halt k m new
+      → HasPassed answers halt (k + i) old new
   both_passed halt i zero old m new p same =
       let all : i ≡ zero + i = omega arith in
       subst (λ j. HasPassed answers halt j old new) all (subst (HasPassed answers halt i old) (sym same) p)
@@ -46,15 +47,19 @@ module _ (answers : ℕ → ℕ → Type 0) where
 
   module _ (old : Shown) (i : ℕ) (m : Shown) where
     -- the calls before the last of one run more
-    pub before : (halt : Halt) (k : ℕ) (new : Shown) (r : Progress) → ArePassed answers halt i old m → (halt ≡ Each → k ≡ 1) → (x : HasMadeSome answers k m new r) → ArePassed answers (halt_inside halt) x.before m x.between → ArePassed answers halt (x.before + i) old x.between
+    pub before : (halt : Halt) (k : ℕ) (new : Shown) (r : Progress) → ArePassed answers halt i old m → (halt ≡ Each → k ≡ 1)
+        → (x : HasMadeSome answers k m new r) → ArePassed answers (halt_inside halt) x.before m x.between → ArePassed answers halt (x.before + i) old x.between
     before Never k new r p singly x inside = tt
     before Each k new r p singly x inside =
         let none : x.before ≡ 0 = omega (arith, x.count, singly refl) in
-        subst (λ w. HasPassed answers Each (x.before + i) old w) (sym (at_once x.before none m x.between x.earlier.made)) (subst (λ j. HasPassed answers Each j old m) (sym (behind x.before i none)) p)
+        subst (λ w. HasPassed answers Each (x.before + i) old w) (sym (at_once x.before none m x.between x.earlier.made))
+        (subst (λ j. HasPassed answers Each j old m) (sym (behind x.before i none)) p)
     before (At q at) k new r p singly x inside = both_passed (At q at) i x.before old m x.between p inside
 
     -- and all of it, where they don't stop after the last
-    pub passed_more : (halt : Halt) (k : ℕ) (new : Shown) (r : Progress) → ArePassed answers halt i old m → (halt ≡ Each → k ≡ 1) → (x : HasMadeSome answers k m new r) → ArePassed answers (halt_inside halt) x.before m x.between → found_live r ≡ true → stops halt new r ≡ false → ShowsSeen new → ArePassed answers halt (k + i) old new
+    pub passed_more : (halt : Halt) (k : ℕ) (new : Shown) (r : Progress) → ArePassed answers halt i old m → (halt ≡ Each → k ≡ 1)
+        → (x : HasMadeSome answers k m new r) → ArePassed answers (halt_inside halt) x.before m x.between → found_live r ≡ true → stops halt new r ≡ false
+        → ShowsSeen new → ArePassed answers halt (k + i) old new
     passed_more Never k new r p singly x inside live on seen = tt
     passed_more Each k new r p singly x inside live on seen =
         let all : suc (x.before + i) ≡ k + i = omega (arith, x.count) in
@@ -66,11 +71,19 @@ module _ (answers : ℕ → ℕ → Type 0) where
         (x.between, before (At q at) k new r p singly x inside, record { progress = r; made = last_one k m new r x; live = live; goes_on = on; seen = seen })
 
     -- they came to an end
-    pub made_to : (halt : Halt) (left rest k : ℕ) (new : Shown) (r : Progress) → HasMadeOn answers i old m → ArePassed answers halt i old m → (halt ≡ Each → k ≡ 1) → HasMadeSomePast answers (halt_inside halt) k m new r → k + i + rest ≡ left
+    pub made_to : (halt : Halt) (left rest k : ℕ) (new : Shown) (r : Progress) → HasMadeOn answers i old m → ArePassed answers halt i old m
+        → (halt ≡ Each → k ≡ 1) → HasMadeSomePast answers (halt_inside halt) k m new r → k + i + rest ≡ left
         → (rest ≡ 0) ⊎ ((found_live r ≡ false) ⊎ (stops halt new r ≡ true)) → HasMadeTo answers halt left rest old new r
     unfolding some_more
     made_to halt left rest k new r h p singly x count whole =
-        record { made = k + i; some = some_more answers old i m h k new r x.some; count = count; passed = before halt k new r p singly x.some x.passed; whole = whole }
+        record {
+          made = k + i;
+          some = some_more answers old i m h k new r x.some;
+          count = count;
+          passed = before halt k new r p singly x.some x.passed;
+          whole =
+              whole;
+        }
 
     -- so they did where they never stop
     pub made_all_to : (left rest k : ℕ) (new : Shown) (r : Progress) → HasMadeOn answers i old m → HasMadeSome answers k m new r → k + i + rest ≡ left
@@ -84,14 +97,18 @@ module _ (answers : ℕ → ℕ → Type 0) where
         ends (inr dead) = inr (inl dead)
 
     -- a call without memory, after k of a run
-    none_passed : (halt : Halt) (k : ℕ) (new : Shown) → ArePassed answers halt i old m → (halt ≡ Each → k ≡ 0) → HasMadeOn answers k m new → ArePassed answers (halt_inside halt) k m new → ArePassed answers halt (k + i) old new
+    none_passed : (halt : Halt) (k : ℕ) (new : Shown) → ArePassed answers halt i old m → (halt ≡ Each → k ≡ 0) → HasMadeOn answers k m new
+        → ArePassed answers (halt_inside halt) k m new → ArePassed answers halt (k + i) old new
     none_passed Never k new p singly on inside = tt
     none_passed Each k new p singly on inside =
         let none : k ≡ 0 = singly refl in
-        subst (λ w. HasPassed answers Each (k + i) old w) (sym (at_once k none m new on.made)) (subst (λ j. HasPassed answers Each j old m) (sym (behind k i none)) p)
+        subst (λ w. HasPassed answers Each (k + i) old w) (sym (at_once k none m new on.made))
+        (subst (λ j. HasPassed answers Each j old m) (sym (behind k i none)) p)
     none_passed (At q at) k new p singly on inside = both_passed (At q at) i k old m new p inside
 
-    pub but_to : (halt : Halt) (left rest most : ℕ) (new : Shown) → HasMadeOn answers i old m → ArePassed answers halt i old m → most ≤ rest → (halt ≡ Each → most ≡ 1) → i + rest ≡ left → (x : HasPassedButFewer answers (halt_inside halt) most m new) → HasMadeButTo answers halt left (rest - x.made) old new
+    pub but_to : (halt : Halt) (left rest most : ℕ) (new : Shown) → HasMadeOn answers i old m → ArePassed answers halt i old m → most ≤ rest
+        → (halt ≡ Each → most ≡ 1) → i + rest ≡ left → (x : HasPassedButFewer answers (halt_inside halt) most m new)
+        → HasMadeButTo answers halt left (rest - x.made) old new
     but_to halt left rest most new h p few singly count x =
         let lt = x.fewer in
         record {

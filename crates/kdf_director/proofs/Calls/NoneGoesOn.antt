@@ -20,7 +20,8 @@ use Rattle.kdf_director.proofs.Linking.NextPrograms.{any_same, none_next}
 use Rattle.kdf_theory.proofs.Course.OrdersInARow.{calls-waited_on, priorities-waited_on}
 use Rattle.kdf_director.proofs.Linking.TurnTaken.{HasAdvanced, holds_in, shown, waited}
 
-module _ (service : ℕ → ℕ → Type 0) (y : Standing) (J : List Entry) (room : ℕ) (a : Agrees y.slots y.reaches y.seats y.shared J) (have : y.holds ≡ holds_in y.seats J) (live : any_live y.slots J ≡ true) (none : first_in y (priorities J) ≡ None) where
+module _ (service : ℕ → ℕ → Type 0) (y : Standing) (J : List Entry) (room : ℕ) (a : Agrees y.slots y.reaches y.seats y.shared J)
+    (have : y.holds ≡ holds_in y.seats J) (live : any_live y.slots J ≡ true) (none : first_in y (priorities J) ≡ None) where
   abbrev m : ℕ → Shown
   m n = shown y.slots y.reaches y.seats y.shared (waited_on J n) room
 
@@ -36,7 +37,8 @@ module _ (service : ℕ → ℕ → Type 0) (y : Standing) (J : List Entry) (roo
 
     none_still : next (world_of (m n)) y.slots (waited_on J n) ≡ None
     none_still =
-        none_next y.slots y.reaches y.seats y.shared (waited_on J n) w.agrees y.holds w.holds_are (state_at (m n)) (ap (first_in y) (priorities-waited_on J n) ∙ none)
+        none_next y.slots y.reaches y.seats y.shared (waited_on J n) w.agrees y.holds w.holds_are (state_at (m n)) (ap (first_in y) (priorities-waited_on J n)
+        ∙ none)
 
     advanced : HasAdvanced service (m n) y (waited_on J (suc n)) room progress.Idle
     advanced = waited service y.slots y.reaches y.seats y.shared (waited_on J n) room w.agrees y.holds w.holds_are few live_still none_still
@@ -71,7 +73,8 @@ module _ (service : ℕ → ℕ → Type 0) (y : Standing) (J : List Entry) (roo
       passed,
       record {
         progress = progress.Idle;
-        made = made_one service (m n) (m (suc n)) progress.Idle w.agrees.legal advanced.advance advanced.answered (λ found. (advanced.agrees.legal, refl, refl));
+        made = made_one service (m n) (m (suc n)) progress.Idle w.agrees.legal advanced.advance advanced.answered
+            (λ found. (advanced.agrees.legal, refl, refl));
         live = refl;
         goes_on = refl;
         seen = shows y.slots y.reaches y.seats y.shared (waited_on J (suc n)) advanced.agrees;

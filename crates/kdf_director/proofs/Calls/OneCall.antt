@@ -20,26 +20,31 @@ use Rattle.kdf_theory.specs.Served.{is_true_for, IsTrueFor}
 
 pub calls-took : (heard : ℕ) (m n : Shown) (r : Progress) → Advance heard m n r → calls n.journal ≤ calls m.journal + 1
 calls-took heard m n progress.AllEnded took = omega (arith, ap (λ (x : Shown). calls x.journal) took.1)
-calls-took heard m n (progress.Ran p) took = omega (arith, ap calls took.journal, calls-added m.journal (Obeys p (note_of (state_at m p) (truth (world_of m) m.journal p heard))))
+calls-took heard m n (progress.Ran p) took =
+    omega (arith, ap calls took.journal, calls-added m.journal (Obeys p (note_of (state_at m p) (truth (world_of m) m.journal p heard))))
 calls-took heard m n (progress.Held p need) took = omega (arith, ap calls took.journal, calls-added m.journal (Holds p (hold_of need)))
 calls-took heard m n progress.Idle took = omega (arith, ap calls took.journal, calls-added m.journal Waits)
 
 pub moves-took : (heard : ℕ) (m n : Shown) (r : Progress) → Advance heard m n r → moves n.journal ≡ moves m.journal
 moves-took heard m n progress.AllEnded took = ap (λ (x : Shown). moves x.journal) took.1
-moves-took heard m n (progress.Ran p) took = omega (arith, ap moves took.journal, moves-added m.journal (Obeys p (note_of (state_at m p) (truth (world_of m) m.journal p heard))))
+moves-took heard m n (progress.Ran p) took =
+    omega (arith, ap moves took.journal, moves-added m.journal (Obeys p (note_of (state_at m p) (truth (world_of m) m.journal p heard))))
 moves-took heard m n (progress.Held p need) took = omega (arith, ap moves took.journal, moves-added m.journal (Holds p (hold_of need)))
 moves-took heard m n progress.Idle took = omega (arith, ap moves took.journal, moves-added m.journal Waits)
 
 pub clock-took : (heard : ℕ) (m n : Shown) (r : Progress) → Advance heard m n r → clock n.journal ≡ clock m.journal
 clock-took heard m n progress.AllEnded took = ap (λ (x : Shown). clock x.journal) took.1
-clock-took heard m n (progress.Ran p) took = ap clock took.journal ∙ clock-added m.journal (Obeys p (note_of (state_at m p) (truth (world_of m) m.journal p heard)))
+clock-took heard m n (progress.Ran p) took = ap clock took.journal
+    ∙ clock-added m.journal (Obeys p (note_of (state_at m p) (truth (world_of m) m.journal p heard)))
 clock-took heard m n (progress.Held p need) took = ap clock took.journal ∙ clock-added m.journal (Holds p (hold_of need))
 clock-took heard m n progress.Idle took = ap clock took.journal ∙ clock-added m.journal Waits
 
 -- an event that is entered answers its call
-pub entered_on : (m n : Shown) (c : Call) (s : Step) → IsLegal m.slots m.journal → any_live m.slots m.journal ≡ true → call_of s ≡ c → Enters m n s → Reaches (lone_dispatched m.slots) (steps m.journal) (c ∷ []) (steps n.journal)
+pub entered_on : (m n : Shown) (c : Call) (s : Step) → IsLegal m.slots m.journal → any_live m.slots m.journal ≡ true → call_of s ≡ c → Enters m n s
+    → Reaches (lone_dispatched m.slots) (steps m.journal) (c ∷ []) (steps n.journal)
 entered_on m n c s l live is e =
-    reach-added (lone_dispatched m.slots) (steps m.journal) m.journal n.journal [] c s l.in_form (reach-nil (lone_dispatched m.slots) (steps m.journal)) live is (ap (λ (x : Shown). x.journal) e)
+    reach-added (lone_dispatched m.slots) (steps m.journal) m.journal n.journal [] c s l.in_form (reach-nil (lone_dispatched m.slots) (steps m.journal)) live
+    is (ap (λ (x : Shown). x.journal) e)
 
 module _ (m n : Shown) (s : Step) (e : Enters m n s) where
   pub calls-entered : calls n.journal ≡ calls m.journal + calls_by s
@@ -49,6 +54,7 @@ module _ (m n : Shown) (s : Step) (e : Enters m n s) where
   clock-entered = ap (λ (x : Shown). clock x.journal) e ∙ clock-added m.journal s
 
 -- an event that is entered has no answer
-pub true_entered : (answers : ℕ → ℕ → Type 0) (m n : Shown) (s : Step) → IsLegal m.slots m.journal → IsTrueFor answers m.slots m.journal → course.Noted (is_true_for answers m.slots m.journal) s → Enters m n s → IsTrueFor answers n.slots n.journal
+pub true_entered : (answers : ℕ → ℕ → Type 0) (m n : Shown) (s : Step) → IsLegal m.slots m.journal → IsTrueFor answers m.slots m.journal
+    → course.Noted (is_true_for answers m.slots m.journal) s → Enters m n s → IsTrueFor answers n.slots n.journal
 true_entered answers m n s l truly noted is =
     subst (λ (x : Shown). IsTrueFor answers x.slots x.journal) (sym is) (true_for_added answers m.slots m.journal s l truly noted)

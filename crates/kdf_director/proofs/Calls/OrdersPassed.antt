@@ -1,6 +1,7 @@
 -- Orders of the program that is next after which calls don't stop, and idle calls, after which they never do.
 use Rattle.std.specs.Option.{option_map}
-use Rattle.std.proofs.Common.{◌≡◌, ℕ, zero, suc, ◌+◌, ◌<◌, ◌≤◌, Bool, true, false, ◌&&◌, eqb, List, length, Option, Some, None, cond, refl, sym, ap, ◌∙◌, subst, arith}
+use Rattle.std.proofs.Common.{◌≡◌, ℕ, zero, suc, ◌+◌, ◌<◌, ◌≤◌, Bool, true, false, ◌&&◌, eqb, List, length, Option, Some, None, cond, refl, sym, ap, ◌∙◌, subst}
+use Rattle.std.proofs.Common.{arith}
 use Rattle.kdf_processor.specs.declared.step.Step.{Step}
 use Rattle.kdf_director.specs.declared.note.Note.{Note}
 use Rattle.kdf_journal.specs.declared.entry.Entry.{Entry}
@@ -67,7 +68,8 @@ module _ (answers : ℕ → ℕ → Type 0) (y : Standing) (J : List Entry) (roo
 
   -- its next order leaves it elsewhere
   module _ (n : ℕ) (seats : List Seat) (s : Shared) (g : Goes n seats s) (seats' : List Seat) (s' : Shared)
-      (tried : HasTriedAt answers y.reaches (clock J) i seats s seats' s' Done Quiet) (run : IsRunning y.reaches seats' s') (few : calls (ran_on J p n) < CALL_LIMIT)
+      (tried : HasTriedAt answers y.reaches (clock J) i seats s seats' s' Done Quiet) (run : IsRunning y.reaches seats' s')
+      (few : calls (ran_on J p n) < CALL_LIMIT)
       (past : is_at place (of_seats i seats') ≡ false) where
     goes_on : stops (At k at) (shows_after (suc n) seats' s') (progress.Ran (seat_at seats' i).p) ≡ false
     goes_on =

@@ -63,7 +63,8 @@ pub record IsGoingOn (service : ℕ → ℕ → Type 0) (y : Standing) (J : List
   pub there : i < length seats
   pub made : HasMadeOn service n (shown y.slots y.reaches y.seats y.shared J room) (shown y.slots y.reaches seats s (ran_on J (number_in y i) n) room)
 
-module _ (service : ℕ → ℕ → Type 0) (y : Standing) (J : List Entry) (room i n : ℕ) (seats : List Seat) (s : Shared) (g : IsGoingOn service y J room i n seats s) where
+module _ (service : ℕ → ℕ → Type 0) (y : Standing) (J : List Entry) (room i n : ℕ) (seats : List Seat) (s : Shared)
+    (g : IsGoingOn service y J room i n seats s) where
   abbrev slots : List Slot
   slots = y.slots
 
@@ -97,11 +98,14 @@ module _ (service : ℕ → ℕ → Type 0) (y : Standing) (J : List Entry) (roo
   few_on = few_ran slots reaches seats s K g.agrees i g.there live_on
 
   -- it tries its next order
-  module _ (seats' : List Seat) (s' : Shared) (ended : Ending) (beside : Noted) (tried : HasTriedAt service reaches (clock J) i seats s seats' s' ended beside) (run : IsRunning reaches seats' s') (few : calls K < CALL_LIMIT) where
+  module _ (seats' : List Seat) (s' : Shared) (ended : Ending) (beside : Noted) (tried : HasTriedAt service reaches (clock J) i seats s seats' s' ended beside)
+      (run : IsRunning reaches seats' s') (few : calls K < CALL_LIMIT) where
     turned : HasTurned reaches (moment (clock K) (unwrap_or tried.heard 0)) i seats s seats' s' ended beside
     turned = subst (λ t. HasTurned reaches (moment t (unwrap_or tried.heard 0)) i seats s seats' s' ended beside) (sym (clock-ran_on J p n)) tried.turned
 
-    module _ (held : List (Option Need)) (L : List Entry) (answer : Progress) (left : held ≡ set holds i (hold_left ended)) (entered : L ≡ added K (step_told (seat_at seats' i).p (seat_at seats' i).registers.ran ended beside)) (answered : answer ≡ progress_of (seat_at seats' i).p ended) where
+    module _ (held : List (Option Need)) (L : List Entry) (answer : Progress) (left : held ≡ set holds i (hold_left ended))
+        (entered : L ≡ added K (step_told (seat_at seats' i).p (seat_at seats' i).registers.ran ended beside))
+        (answered : answer ≡ progress_of (seat_at seats' i).p ended) where
       did : HasTaken service reaches i seats s (held_on holds i n) K seats' s' held L answer
       did =
           record {
@@ -117,13 +121,16 @@ module _ (service : ℕ → ℕ → Type 0) (y : Standing) (J : List Entry) (roo
 
       pub advanced_on : HasAdvanced service m (record y { seats = seats'; holds = held; shared = s' }) L room answer
       advanced_on =
-          taken service slots reaches seats s K room g.agrees (held_on holds i n) g.holds_are few i g.there (g.turn ∙ ap Some (sym g.number)) seats' s' held L answer did run
+          taken service slots reaches seats s K room g.agrees (held_on holds i n) g.holds_are few i g.there (g.turn ∙ ap Some (sym g.number)) seats' s' held L
+          answer did run
 
       all_made : found_live answer ≡ true → HasMadeOn service (suc n) old (shown slots reaches seats' s' L room)
       all_made found =
-          made_more service n old m (shown slots reaches seats' s' L room) answer g.made advanced_on.advance found advanced_on.answered advanced_on.agrees.legal refl refl
+          made_more service n old m (shown slots reaches seats' s' L room) answer g.made advanced_on.advance found advanced_on.answered
+          advanced_on.agrees.legal refl refl
 
-      pub made_some : (halt : Halt) → ArePassed service halt n old m → (k : ℕ) → k ≡ n + 1 → HasMadeSomePast service halt k old (shown slots reaches seats' s' L room) answer
+      pub made_some : (halt : Halt) → ArePassed service halt n old m → (k : ℕ) → k ≡ n + 1
+          → HasMadeSomePast service halt k old (shown slots reaches seats' s' L room) answer
       made_some halt passed k is =
           let more : suc n ≡ k = omega (arith, is) in
           record {
@@ -140,15 +147,18 @@ module _ (service : ℕ → ℕ → Type 0) (y : Standing) (J : List Entry) (roo
           }
 
   -- and nothing is noted of it
-  module _ (seats' : List Seat) (s' : Shared) (tried : HasTriedAt service reaches (clock J) i seats s seats' s' ending.Done noted.Quiet) (run : IsRunning reaches seats' s') (few : calls K < CALL_LIMIT) where
+  module _ (seats' : List Seat) (s' : Shared) (tried : HasTriedAt service reaches (clock J) i seats s seats' s' ending.Done noted.Quiet)
+      (run : IsRunning reaches seats' s') (few : calls K < CALL_LIMIT) where
     pub number_on : (seat_at seats' i).p ≡ p
     number_on = tried.turned.numbers i ∙ g.number
 
     same : ran_on J p (suc n) ≡ added K (Obeys (seat_at seats' i).p Quiet)
     same = ap (λ q. added K (Obeys q Quiet)) (sym number_on)
 
-    pub next_advanced : HasAdvanced service m (record y { seats = seats'; holds = (set holds i None); shared = s' }) (ran_on J p (suc n)) room (progress.Ran (seat_at seats' i).p)
-    next_advanced = advanced_on seats' s' ending.Done noted.Quiet tried run few (set holds i None) (ran_on J p (suc n)) (progress.Ran (seat_at seats' i).p) refl same refl
+    pub next_advanced : HasAdvanced service m (record y { seats = seats'; holds = (set holds i None); shared = s' }) (ran_on J p (suc n)) room
+        (progress.Ran (seat_at seats' i).p)
+    next_advanced = advanced_on seats' s' ending.Done noted.Quiet tried run few (set holds i None) (ran_on J p (suc n)) (progress.Ran (seat_at seats' i).p)
+        refl same refl
 
     pub going_on : IsGoingOn service y J room i (suc n) seats' s'
     going_on =
@@ -158,5 +168,6 @@ module _ (service : ℕ → ℕ → Type 0) (y : Standing) (J : List Entry) (roo
           turn = still_next slots K p g.agrees.are g.agrees.legal (state_at m) (state_at (shown slots reaches seats' s' (ran_on J p (suc n)) room)) g.turn;
           number = number_on;
           there = (let there = g.there in let count = tried.turned.count in omega arith);
-          made = all_made seats' s' ending.Done noted.Quiet tried run few (set holds i None) (ran_on J p (suc n)) (progress.Ran (seat_at seats' i).p) refl same refl refl;
+          made = all_made seats' s' ending.Done noted.Quiet tried run few (set holds i None) (ran_on J p (suc n)) (progress.Ran (seat_at seats' i).p) refl same
+              refl refl;
         }

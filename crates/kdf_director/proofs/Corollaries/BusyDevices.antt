@@ -26,7 +26,8 @@ taker_is : (p : ℕ) (o : Option ℕ) → is_taker p o ≡ true → o ≡ Some p
 taker_is p None is = cc
 taker_is p (Some q) is = ap Some (eqb-true q p is)
 
-pub busy_held : (slots : List Slot) (J : List Entry) → AreSlots slots → IsLegal slots J → IsTrue slots J → (p d k : ℕ) → is_pooled (own slots J p).stock.claims d ≡ true → pending d J ≡ Some (p, k) → holder d J ≡ Some p
+pub busy_held : (slots : List Slot) (J : List Entry) → AreSlots slots → IsLegal slots J → IsTrue slots J → (p d k : ℕ)
+    → is_pooled (own slots J p).stock.claims d ≡ true → pending d J ≡ Some (p, k) → holder d J ≡ Some p
 busy_held slots J are l truly p d k pooled busy =
     ap (unless_over J) takes ∙ ap (λ b. cond b None (Some p)) live
   where

@@ -16,7 +16,8 @@ use Rattle.kdf_theory.proofs.Course.OneJournal.{own_unserved}
 use Rattle.kdf_theory.proofs.Course.HeardWords.{none_asked}
 
 module _ (answers more : ℕ → ℕ → Type 0) (slots : List Slot) where
-  by_effect : (J : List Entry) (p : ℕ) (e : Effect) (v : ℕ) → word_asked e ≡ None → IsAnswer e (is_served answers slots J p) v → IsAnswer e (is_served more slots J p) v
+  by_effect : (J : List Entry) (p : ℕ) (e : Effect) (v : ℕ) → word_asked e ≡ None → IsAnswer e (is_served answers slots J p) v
+      → IsAnswer e (is_served more slots J p) v
   by_effect J p (Asking (IsBusy d) after) v none is = is
   by_effect J p (Asking (IsOut first last) after) v none is = is
   by_effect J p (Asking Time after) v none is = is
@@ -29,7 +30,8 @@ module _ (answers more : ℕ → ℕ → Type 0) (slots : List Slot) where
   by_note J p (Took d) none is = by_effect J p (next_effect (own slots J p)) d none is
   by_note J p note none is = tt
 
-  by_step : (J : List Entry) (s : Step) → course.Noted (asks_none slots J) s → course.Noted (is_true_for answers slots J) s → course.Noted (is_true_for more slots J) s
+  by_step : (J : List Entry) (s : Step) → course.Noted (asks_none slots J) s → course.Noted (is_true_for answers slots J) s
+      → course.Noted (is_true_for more slots J) s
   by_step J (Obeys p note) none is = by_note J p note none is
   by_step J s none is = tt
 

@@ -1,6 +1,7 @@
 -- A device of the pool that a program has claimed has exactly one stint that isn't given back, and one that it hasn't claimed has none.
 use Rattle.std.specs.List.{filter}
-use Rattle.std.proofs.Common.{◌≡◌, ◌≢◌, ℕ, zero, suc, ◌+◌, ◌<◌, Bool, true, false, cond, eqb, not, ◌&&◌, List, [], ◌∷◌, ◌++◌, length, get_or, map, set, Option, Some, None, is_some, refl, sym, ap, ap₂, ◌∙◌, subst, ⊎_elim, arith}
+use Rattle.std.proofs.Common.{◌≡◌, ◌≢◌, ℕ, zero, suc, ◌+◌, ◌<◌, Bool, true, false, cond, eqb, not, ◌&&◌, List, [], ◌∷◌, ◌++◌, length, get_or, map, set, Option}
+use Rattle.std.proofs.Common.{Some, None, is_some, refl, sym, ap, ap₂, ◌∙◌, subst, ⊎_elim, arith}
 use Rattle.std.proofs.lemmas.Bool.{and_parts, cases_Bool, cases_eq, eq-eqb, false≢true, ne_eqb}
 use Rattle.std.proofs.lemmas.List.{get_or-replicate, get_or-set_other, get_or-set_same, length-append}
 use Rattle.std.proofs.lemmas.List.Elements.{filter-append}
@@ -14,7 +15,8 @@ use Rattle.kdf_processor.specs.Effect.{Question, FreeOf, Effect, Starting, Askin
 use Rattle.kdf_processor.specs.Lone.{is_live, lone, lone_step}
 use Rattle.kdf_processor.specs.Needs.{next_effect}
 use Rattle.kdf_processor.specs.Row.{handed, perform, row, transferred}
-use Rattle.kdf_processor.specs.State.{Claims, Lending, State, Stint, Stock, begin, device_in, device_limit, fixture_at, is_pooled, lending_of, lendings, own_fixture_at, pool_kind_at, unclaimed, word_at}
+use Rattle.kdf_processor.specs.State.{Claims, Lending, State, Stint, Stock, begin, device_in, device_limit, fixture_at, is_pooled, lending_of, lendings}
+use Rattle.kdf_processor.specs.State.{own_fixture_at, pool_kind_at, unclaimed, word_at}
 use Rattle.kdf_processor.proofs.Fit.{IsFit, next_fit}
 use Rattle.kdf_processor.proofs.Lending.{mark_claimed}
 use Rattle.kdf_processor.proofs.RowFacts.{live_step, next_answer, over_step}
@@ -72,10 +74,12 @@ shut d e p = of (eqb e d)
     of false = refl
 
 -- one after its device was given back
-open_after : (x d : ℕ) (p : Progress) (e : ℕ) (l : Option Progress) → is_open d (handed x p (record { device = e; left = l })) ≡ cond (eqb x d) false (is_open d (record { device = e; left = l }))
+open_after : (x d : ℕ) (p : Progress) (e : ℕ) (l : Option Progress) → is_open d (handed x p (record { device = e; left = l })) ≡ cond (eqb x d) false
+    (is_open d (record { device = e; left = l }))
 open_after x d p e (Some q) = of (eqb e x) ∙ sym (both (eqb x d))
   where
-    of : (b : Bool) → is_open d (cond (b && false) (let y : Stint = record { device = e; left = Some p } in y) (let y : Stint = record { device = e; left = Some q } in y)) ≡ false
+    of : (b : Bool) → is_open d (cond (b && false) (let y : Stint = record { device = e; left = Some p } in y)
+        (let y : Stint = record { device = e; left = Some q } in y)) ≡ false
     of true = shut d e q
     of false = shut d e q
 
@@ -84,8 +88,10 @@ open_after x d p e (Some q) = of (eqb e x) ∙ sym (both (eqb x d))
     both false = shut d e q
 open_after x d p e None =
     ⊎_elim
-    (λ (same : e ≡ x). ap (λ b. is_open d (cond (b && true) (let y : Stint = record { device = e; left = Some p } in y) (let y : Stint = record { device = e; left = None } in y))) (eq-eqb e x same) ∙ shut d e p ∙ sym (gone same))
-    (λ (ne : e ≢ x). ap (λ b. is_open d (cond (b && true) (let y : Stint = record { device = e; left = Some p } in y) (let y : Stint = record { device = e; left = None } in y))) (ne_eqb e x ne) ∙ sym (stays ne))
+    (λ (same : e ≡ x). ap (λ b. is_open d (cond (b && true) (let y : Stint = record { device = e; left = Some p } in y)
+    (let y : Stint = record { device = e; left = None } in y))) (eq-eqb e x same) ∙ shut d e p ∙ sym (gone same))
+    (λ (ne : e ≢ x). ap (λ b. is_open d (cond (b && true) (let y : Stint = record { device = e; left = Some p } in y)
+    (let y : Stint = record { device = e; left = None } in y))) (ne_eqb e x ne) ∙ sym (stays ne))
     (cases_eq e x)
   where
     gone : e ≡ x → cond (eqb x d) false (is_open d (record { device = e; left = None })) ≡ false
@@ -98,7 +104,8 @@ open_after x d p e None =
     stays : e ≢ x → cond (eqb x d) false (is_open d (record { device = e; left = None })) ≡ is_open d (record { device = e; left = None })
     stays ne =
         ⊎_elim
-        (λ (same : x ≡ d). ap (λ b. cond b false (is_open d (record { device = e; left = None }))) (eq-eqb x d same) ∙ sym (open_new e d ∙ ne_eqb e d (λ is. ne (is ∙ sym same))))
+        (λ (same : x ≡ d). ap (λ b. cond b false (is_open d (record { device = e; left = None }))) (eq-eqb x d same)
+        ∙ sym (open_new e d ∙ ne_eqb e d (λ is. ne (is ∙ sym same))))
         (λ (other : x ≢ d). ap (λ b. cond b false (is_open d (record { device = e; left = None }))) (ne_eqb x d other))
         (cases_eq x d)
 
@@ -136,14 +143,16 @@ module _ (s : State) (fixed : IsFixed s.stock.claims) (counted : IsCounted s) wh
   aside : (x d : ℕ) (b : Bool) → is_pooled c d ≡ true → d ≢ x → opened d k.stints ≡ one_if (get_or (set c.claimed x b) d false)
   aside x d b pooled other = counted d pooled ∙ sym (ap one_if (get_or-set_other c.claimed x d b false other))
 
-  taken_counted : (x d : ℕ) → is_pooled c x ≡ true → get_or c.claimed x false ≡ false → is_pooled c d ≡ true → opened d (k.stints ++ record { device = x; left = None } ∷ []) ≡ one_if (get_or (set c.claimed x true) d false)
+  taken_counted : (x d : ℕ) → is_pooled c x ≡ true → get_or c.claimed x false ≡ false → is_pooled c d ≡ true
+      → opened d (k.stints ++ record { device = x; left = None } ∷ []) ≡ one_if (get_or (set c.claimed x true) d false)
   taken_counted x d there free pooled =
       opened_more d x k.stints
       ∙ ⊎_elim
       (λ (same : x ≡ d).
       let was : opened d k.stints ≡ 0 = counted d pooled ∙ ap one_if (ap (λ e. get_or c.claimed e false) (sym same) ∙ free) in
       let new : one_if (eqb x d) ≡ 1 = ap one_if (eq-eqb x d same) in
-      let marked : one_if (get_or (set c.claimed x true) d false) ≡ 1 = ap one_if (ap (λ e. get_or (set c.claimed x true) e false) (sym same) ∙ get_or-set_same c.claimed x true false (low x there)) in
+      let marked : one_if (get_or (set c.claimed x true) d false) ≡ 1 =
+      ap one_if (ap (λ e. get_or (set c.claimed x true) e false) (sym same) ∙ get_or-set_same c.claimed x true false (low x there)) in
       omega (arith, was, new, marked))
       (λ (other : x ≢ d).
       let none : one_if (eqb x d) ≡ 0 = ap one_if (ne_eqb x d other) in
@@ -151,7 +160,8 @@ module _ (s : State) (fixed : IsFixed s.stock.claims) (counted : IsCounted s) wh
       omega (arith, none, stays))
       (cases_eq x d)
 
-  given_counted : (x d : ℕ) (p : Progress) → is_pooled c x ≡ true → is_pooled c d ≡ true → opened d (map (handed x p) k.stints) ≡ one_if (get_or (set c.claimed x false) d false)
+  given_counted : (x d : ℕ) (p : Progress) → is_pooled c x ≡ true → is_pooled c d ≡ true
+      → opened d (map (handed x p) k.stints) ≡ one_if (get_or (set c.claimed x false) d false)
   given_counted x d p there pooled =
       opened_after x d p k.stints
       ∙ ⊎_elim
@@ -163,7 +173,8 @@ module _ (s : State) (fixed : IsFixed s.stock.claims) (counted : IsCounted s) wh
       ∙ aside x d false pooled (λ e. other (sym e)))
       (cases_eq x d)
 
-  moved_counted : (r : Registers) (d : ℕ) (o : TransferOrder) (first last : ℕ) (f : Option Fixture) → IsCounted (record { registers = r; stock = transferred d o first last f k })
+  moved_counted : (r : Registers) (d : ℕ) (o : TransferOrder) (first last : ℕ) (f : Option Fixture)
+      → IsCounted (record { registers = r; stock = transferred d o first last f k })
   moved_counted r d o first last None = counted
   moved_counted r d o first last (Some f) = counted
 
@@ -215,17 +226,21 @@ module _ (slot : Slot) (is : IsSlot slot) (answers : List ℕ) where
   counted_lone zero = counted_first
   counted_lone (suc n) = step_counted answers (lone (begin slot) answers n) (fixed_lone n) (counted_lone n)
 
-  counted_seen : (n d : ℕ) → is_pooled (lone (begin slot) answers n).stock.claims d ≡ true → length (filter (λ (x : Lending). eqb x.device d && not x.given) (lendings (lone (begin slot) answers n).stock)) ≡ one_if (get_or (lone (begin slot) answers n).stock.claims.claimed d false)
+  counted_seen : (n d : ℕ) → is_pooled (lone (begin slot) answers n).stock.claims d ≡ true
+      → length (filter (λ (x : Lending). eqb x.device d && not x.given) (lendings (lone (begin slot) answers n).stock))
+      ≡ one_if (get_or (lone (begin slot) answers n).stock.claims.claimed d false)
   unfolding lendings
   counted_seen n d pooled =
       seen_open (lone (begin slot) answers n).stock d (lone (begin slot) answers n).stock.stints ∙ counted_lone n d pooled
 
   -- one that is claimed has exactly one
-  pub one_stint : (n d : ℕ) → is_pooled (lone (begin slot) answers n).stock.claims d ≡ true → is_claimed (lone (begin slot) answers n).stock.claims d ≡ true → length (filter (λ (x : Lending). eqb x.device d && not x.given) (lendings (lone (begin slot) answers n).stock)) ≡ 1
+  pub one_stint : (n d : ℕ) → is_pooled (lone (begin slot) answers n).stock.claims d ≡ true → is_claimed (lone (begin slot) answers n).stock.claims d ≡ true
+      → length (filter (λ (x : Lending). eqb x.device d && not x.given) (lendings (lone (begin slot) answers n).stock)) ≡ 1
   one_stint n d pooled claimed = counted_seen n d pooled ∙ ap one_if (mark_claimed (lone (begin slot) answers n).stock.claims d claimed)
 
   -- one that isn't has none
-  pub no_stint : (n d : ℕ) → is_pooled (lone (begin slot) answers n).stock.claims d ≡ true → is_claimed (lone (begin slot) answers n).stock.claims d ≡ false → length (filter (λ (x : Lending). eqb x.device d && not x.given) (lendings (lone (begin slot) answers n).stock)) ≡ 0
+  pub no_stint : (n d : ℕ) → is_pooled (lone (begin slot) answers n).stock.claims d ≡ true → is_claimed (lone (begin slot) answers n).stock.claims d ≡ false
+      → length (filter (λ (x : Lending). eqb x.device d && not x.given) (lendings (lone (begin slot) answers n).stock)) ≡ 0
   no_stint n d pooled free = counted_seen n d pooled ∙ ap one_if (free_mark (pool_kind_at c d) refl pooled)
     where
       c : Claims

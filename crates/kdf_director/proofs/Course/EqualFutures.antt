@@ -1,5 +1,6 @@
 -- Journals that are judged alike, at this moment and after each step more, go on alike.
-use Rattle.std.proofs.Common.{◌≡◌, ℕ, ◌-◌, ◌<◌, ◌≤◌, ◌^◌, List, [], ◌∷◌, ◌++◌, Option, Some, None, is_some, Bool, true, false, cond, ◌||◌, ◌&&◌, not, eqb, ◌⊎◌, inl, inr, refl, sym, ◌∙◌, ap, ap₂, subst, append_assoc}
+use Rattle.std.proofs.Common.{◌≡◌, ℕ, ◌-◌, ◌<◌, ◌≤◌, ◌^◌, List, [], ◌∷◌, ◌++◌, Option, Some, None, is_some, Bool, true, false, cond, ◌||◌, ◌&&◌, not, eqb, ◌⊎◌}
+use Rattle.std.proofs.Common.{inl, inr, refl, sym, ◌∙◌, ap, ap₂, subst, append_assoc}
 use Rattle.std.specs.Prelude.{find, unwrap_or}
 use Rattle.std.specs.List.{filter, range_with_len, list_any}
 use Rattle.std.proofs.Math.Path.{fun_ext}
@@ -67,16 +68,19 @@ module _ (J K : List Entry) (s : Step) (ended : (p : ℕ) → over p J ≡ over 
   new_one None = refl
   new_one (Some p) = ap (λ (b : Bool). cond b None (Some p)) (ended_added p)
 
-  changed : (b : Bool) (new o u : Option ℕ) → unless_over J o ≡ unless_over K u → unless_over (added J s) (cond b new o) ≡ unless_over (added K s) (cond b new u)
+  changed : (b : Bool) (new o u : Option ℕ) → unless_over J o ≡ unless_over K u → unless_over (added J s) (cond b new o) ≡ unless_over (added K s)
+      (cond b new u)
   changed true new o u same = new_one new
   changed false new o u same = stays o u same
 
-by_step : (J K : List Entry) (s : Step) → ((p : ℕ) → over p J ≡ over p K) → (d : ℕ) (o u : Option ℕ) → unless_over J o ≡ unless_over K u → unless_over (added J s) (taker_by d o s) ≡ unless_over (added K s) (taker_by d u s)
+by_step : (J K : List Entry) (s : Step) → ((p : ℕ) → over p J ≡ over p K) → (d : ℕ) (o u : Option ℕ) → unless_over J o ≡ unless_over K u
+    → unless_over (added J s) (taker_by d o s) ≡ unless_over (added K s) (taker_by d u s)
 by_step J K (Obeys p (Took e)) ended d o u same = changed J K (Obeys p (Took e)) ended (eqb e d) (Some p) o u same
 by_step J K (Obeys p (Gave e)) ended d o u same = changed J K (Obeys p (Gave e)) ended (eqb e d) None o u same
 by_step J K s ended d o u same = stays J K s ended o u same
 
-pub lent_added : (J K : List Entry) (s : Step) → ((p : ℕ) → over p J ≡ over p K) → (d : ℕ) → holder d J ≡ holder d K → holder d (added J s) ≡ holder d (added K s)
+pub lent_added : (J K : List Entry) (s : Step) → ((p : ℕ) → over p J ≡ over p K) → (d : ℕ) → holder d J ≡ holder d K
+    → holder d (added J s) ≡ holder d (added K s)
 lent_added J K s ended d same =
     ap (unless_over (added J s)) (taker-added d J s)
     ∙ by_step J K s ended d (taker d J) (taker d K) same
@@ -116,12 +120,14 @@ module _ (slots : List Slot) (J K : List Entry) where
       ap (λ (test : ℕ → Bool). find test (range_with_len 0 device_count))
       (fun_ext (λ d. ap (λ (h : Option ℕ). is_kind kind (pool_kind_at (start slots p).stock.claims d) && not (is_some h)) (lent d)))
 
-  pending_alike : (p : ℕ) → ((d : ℕ) → flights_of slots J p d ≡ flights_of slots K p d) → ((d : ℕ) → pending d J ≡ pending d K) → ((d : ℕ) → holder d J ≡ holder d K) → (n : Need) → is_pending_after slots J p n ≡ is_pending_after slots K p n
+  pending_alike : (p : ℕ) → ((d : ℕ) → flights_of slots J p d ≡ flights_of slots K p d) → ((d : ℕ) → pending d J ≡ pending d K)
+      → ((d : ℕ) → holder d J ≡ holder d K) → (n : Need) → is_pending_after slots J p n ≡ is_pending_after slots K p n
   pending_alike p flights flying lent (Group g) = ap (λ (fs : ℕ → Option Flight). touched_below device_count fs g) (fun_ext flights)
   pending_alike p flights flying lent (Device d) = ap is_some (flying d)
   pending_alike p flights flying lent (Pool kind) = ap (λ (o : Option ℕ). not (is_some o)) (free_alike p lent kind)
 
-  pub world_alike : ((p : ℕ) → own slots J p ≡ own slots K p) → ((p d : ℕ) → flights_of slots J p d ≡ flights_of slots K p d) → ((d : ℕ) → pending d J ≡ pending d K) → ((d : ℕ) → holder d J ≡ holder d K) → lone_world slots J ≡ lone_world slots K
+  pub world_alike : ((p : ℕ) → own slots J p ≡ own slots K p) → ((p d : ℕ) → flights_of slots J p d ≡ flights_of slots K p d)
+      → ((d : ℕ) → pending d J ≡ pending d K) → ((d : ℕ) → holder d J ≡ holder d K) → lone_world slots J ≡ lone_world slots K
   world_alike states flights flying lent =
       ap₂ (λ (s : ℕ → State) (b : ℕ → Need → Bool). make s b (mine_after J) (free_after slots J))
       (fun_ext states) (fun_ext (λ p. fun_ext (pending_alike p (flights p) flying lent)))
@@ -140,7 +146,8 @@ pub live_alike : (there : ℕ → Bool) (J K : List Entry) → ((p : ℕ) → ov
 unfolding any.any_live any.lives
 live_alike there J K ended = ap (λ (f : ℕ → Bool). list_any f slot_numbers) (fun_ext (λ p. ap (λ (b : Bool). there p && not b) (ended p)))
 
-next_alike : (w : any.World) (J K : List Entry) → ((p : ℕ) → over p J ≡ over p K) → ((p : ℕ) → last_hold p J ≡ last_hold p K) → priorities J ≡ priorities K → any.next w J ≡ any.next w K
+next_alike : (w : any.World) (J K : List Entry) → ((p : ℕ) → over p J ≡ over p K) → ((p : ℕ) → last_hold p J ≡ last_hold p K) → priorities J ≡ priorities K
+    → any.next w J ≡ any.next w K
 unfolding any.next any.can_go any.lives
 next_alike w J K ended hold order =
     ap₂ find (fun_ext (λ p. ap₂ (λ (b : Bool) (o : Option Hold). (w.there p && not b) && not (any.stands w p o)) (ended p) (hold p))) order
@@ -156,7 +163,8 @@ module _ (slots : List Slot) (J K : List Entry) (is : IsJudged slots J K) where
   held_is p = ap (λ (w : World). (dispatched slots w).held p) is.world
 
   -- a step that meets the rules after the one does so after the other
-  pub meets_alike : (a b : ℕ → Note → Type 0) → ((p : ℕ) (n : Note) → a p n → b p n) → (s : Step) → course.Meets (lone_dispatched slots J) a J s → course.Meets (lone_dispatched slots K) b K s
+  pub meets_alike : (a b : ℕ → Note → Type 0) → ((p : ℕ) (n : Note) → a p n → b p n) → (s : Step) → course.Meets (lone_dispatched slots J) a J s
+      → course.Meets (lone_dispatched slots K) b K s
   meets_alike a b within (Obeys p n) m = (sym next_is ∙ m.0, sym (held_is p) ∙ m.1, within p n m.2)
   meets_alike a b within (Holds p by) m = (sym next_is ∙ m.0, sym (held_is p) ∙ m.1)
   meets_alike a b within Waits m = (sym (live_alike (there_in slots) J K is.ended) ∙ m.0, sym next_is ∙ m.1)
@@ -174,11 +182,13 @@ module _ (slots : List Slot) (J K : List Entry) (is : IsJudged slots J K) where
       (λ p n e. e ∙ ap₂ (λ (w : World) (t : ℕ). note_of (w.state p) (known (w.pending p) t (w.free p) heard)) is.world is.time)
       s m
 
-  pub legally_alike : (s : Step) → course.Meets (lone_dispatched slots J) (any_answer slots J) J s → course.Meets (lone_dispatched slots K) (any_answer slots K) K s
+  pub legally_alike : (s : Step) → course.Meets (lone_dispatched slots J) (any_answer slots J) J s
+      → course.Meets (lone_dispatched slots K) (any_answer slots K) K s
   legally_alike s m = meets_alike (any_answer slots J) (any_answer slots K) any_alike s m
 
   module _ (service : ℕ → ℕ → Type 0) (p : ℕ) where
-    truth_alike : (v : ℕ) (q : Question) → v ≡ known ((lone_world slots J).pending p) (clock J) ((lone_world slots J).free p) v q → v ≡ known ((lone_world slots K).pending p) (clock K) ((lone_world slots K).free p) v q
+    truth_alike : (v : ℕ) (q : Question) → v ≡ known ((lone_world slots J).pending p) (clock J) ((lone_world slots J).free p) v q
+        → v ≡ known ((lone_world slots K).pending p) (clock K) ((lone_world slots K).free p) v q
     truth_alike v q e = e ∙ ap₂ (λ (w : World) (t : ℕ). known (w.pending p) t (w.free p) v q) is.world is.time
 
     answer_alike : (e : Effect) (v : ℕ) → IsAnswer e (is_served service slots J p) v → IsAnswer e (is_served service slots K p) v
@@ -189,7 +199,8 @@ module _ (slots : List Slot) (J K : List Entry) (is : IsJudged slots J K) where
     answer_alike (Asking (OfService word) after) v m = m
     answer_alike e v m = tt
 
-    told_alike : (v : ℕ) → IsAnswer (next_effect (own slots J p)) (is_served service slots J p) v → IsAnswer (next_effect (own slots K p)) (is_served service slots K p) v
+    told_alike : (v : ℕ) → IsAnswer (next_effect (own slots J p)) (is_served service slots J p) v
+        → IsAnswer (next_effect (own slots K p)) (is_served service slots K p) v
     told_alike v m = answer_alike (next_effect (own slots K p)) v (subst (λ (s : State). IsAnswer (next_effect s) (is_served service slots J p) v) (own_is p) m)
 
     note_alike : (n : Note) → is_true_for service slots J p n → is_true_for service slots K p n
@@ -203,12 +214,14 @@ module _ (slots : List Slot) (J K : List Entry) (is : IsJudged slots J K) where
 
 -- ---- the same steps more
 
-live_before : (W : List Entry → any.World) (s : Step) (Q P : List Step) → EachLive W ((s ∷ Q) ++ P) → any.any_live (W (journal_of P)).there (journal_of P) ≡ true
+live_before : (W : List Entry → any.World) (s : Step) (Q P : List Step) → EachLive W ((s ∷ Q) ++ P) → any.any_live (W (journal_of P)).there (journal_of P)
+    ≡ true
 live_before W s [] P l = l.1
 live_before W s (t ∷ Q) P l = live_before W t Q P l.0
 
 -- a relation that each step keeps, and by which journals are judged alike
-module _ (slots : List Slot) (Alike : List Entry → List Entry → Type 0) (keeps : (J K : List Entry) (s : Step) → Alike J K → Alike (added J s) (added K s)) (judged : (J K : List Entry) → Alike J K → IsJudged slots J K) where
+module _ (slots : List Slot) (Alike : List Entry → List Entry → Type 0) (keeps : (J K : List Entry) (s : Step) → Alike J K → Alike (added J s) (added K s))
+    (judged : (J K : List Entry) → Alike J K → IsJudged slots J K) where
   abbrev W : List Entry → any.World
   W = lone_dispatched slots
 
@@ -224,7 +237,8 @@ module _ (slots : List Slot) (Alike : List Entry → List Entry → Type 0) (kee
     meets_on [] m r = r
     meets_on (s ∷ Q) m r = (meets_on Q m.0 r, legally_alike slots (journal_of (Q ++ P)) (journal_of (Q ++ R)) (judged_on Q) s m.1)
 
-    noted_on : (service : ℕ → ℕ → Type 0) (Q : List Step) → course.EachNoted (is_true_for service slots) (Q ++ P) → course.EachNoted (is_true_for service slots) R → course.EachNoted (is_true_for service slots) (Q ++ R)
+    noted_on : (service : ℕ → ℕ → Type 0) (Q : List Step) → course.EachNoted (is_true_for service slots) (Q ++ P)
+        → course.EachNoted (is_true_for service slots) R → course.EachNoted (is_true_for service slots) (Q ++ R)
     noted_on service [] m r = r
     noted_on service (s ∷ Q) m r = (noted_on service Q m.0 r, noted_alike slots (journal_of (Q ++ P)) (journal_of (Q ++ R)) (judged_on Q) service s m.1)
 
@@ -236,7 +250,8 @@ module _ (slots : List Slot) (Alike : List Entry → List Entry → Type 0) (kee
     lived_on (s ∷ Q) l r = (lived_on Q l.0 r, sym (live_on Q) ∙ l.1)
 
     -- the calls that take the one further take the other as far
-    reaches_on : (Q : List Step) (cs left : List Call) → answered Q ++ left ≡ cs → EachLive W (Q ++ P) → (left ≡ []) ⊎ (any.any_live (there_in slots) (journal_of (Q ++ P)) ≡ false) → Reaches W R cs (Q ++ R)
+    reaches_on : (Q : List Step) (cs left : List Call) → answered Q ++ left ≡ cs → EachLive W (Q ++ P)
+        → (left ≡ []) ⊎ (any.any_live (there_in slots) (journal_of (Q ++ P)) ≡ false) → Reaches W R cs (Q ++ R)
     reaches_on Q cs left order lived end = record {
       more = Q;
       goes_on = refl;
@@ -246,17 +261,22 @@ module _ (slots : List Slot) (Alike : List Entry → List Entry → Type 0) (kee
       at_end = ends end;
     }
       where
-        ends : (left ≡ []) ⊎ (any.any_live (there_in slots) (journal_of (Q ++ P)) ≡ false) → (left ≡ []) ⊎ (any.any_live (there_in slots) (journal_of (Q ++ R)) ≡ false)
+        ends : (left ≡ []) ⊎ (any.any_live (there_in slots) (journal_of (Q ++ P)) ≡ false)
+            → (left ≡ []) ⊎ (any.any_live (there_in slots) (journal_of (Q ++ R)) ≡ false)
         ends (inl none) = inl none
         ends (inr dead) = inr (sym (live_on Q) ∙ dead)
 
     -- where the rest of the calls before it is known
-    by_rest : (Q : List Step) (cs rest left : List Call) → (rest ≡ []) ⊎ (any.any_live (there_in slots) (journal_of P) ≡ false) → answered Q ++ left ≡ rest ++ cs → EachLive W (Q ++ P) → (left ≡ []) ⊎ (any.any_live (there_in slots) (journal_of (Q ++ P)) ≡ false) → Reaches W R cs (Q ++ R)
+    by_rest : (Q : List Step) (cs rest left : List Call) → (rest ≡ []) ⊎ (any.any_live (there_in slots) (journal_of P) ≡ false)
+        → answered Q ++ left ≡ rest ++ cs → EachLive W (Q ++ P) → (left ≡ []) ⊎ (any.any_live (there_in slots) (journal_of (Q ++ P)) ≡ false)
+        → Reaches W R cs (Q ++ R)
     by_rest Q cs rest left (inl none) order lived end = reaches_on Q cs left (order ∙ ap (λ (xs : List Call). xs ++ cs) none) lived end
     by_rest [] cs rest left (inr dead) order lived end = reaches_on [] cs cs refl lived (inr dead)
     by_rest (s ∷ Q) cs rest left (inr dead) order lived end = absurd (true≢false (sym (live_before W s Q P lived) ∙ dead))
 
-  module _ (service : ℕ → ℕ → Type 0) (one : (n a b : ℕ) → n < 2 ^ 48 → service n a → service n b → a ≡ b) (events others further : List Event) (J K L : List Entry) (j : IsJournalFor service slots events J) (k : IsJournalFor service slots others K) (l : IsJournalFor service slots (events ++ further) L) (a : Alike J K) where
+  module _ (service : ℕ → ℕ → Type 0) (one : (n a b : ℕ) → n < 2 ^ 48 → service n a → service n b → a ≡ b) (events others further : List Event)
+      (J K L : List Entry) (j : IsJournalFor service slots events J) (k : IsJournalFor service slots others K)
+      (l : IsJournalFor service slots (events ++ further) L) (a : Alike J K) where
     longer : (Q : List Step) × (steps L ≡ Q ++ steps J)
     longer = resumed_for service slots one events further J L j l
 
@@ -293,14 +313,18 @@ module _ (slots : List Slot) (Alike : List Entry → List Entry → Type 0) (kee
         (subst (EachLive W) longer.1 l.whole.follows.lived)
         (subst (λ (X : List Entry). (l.whole.left ≡ []) ⊎ (any.any_live (there_in slots) X ≡ false)) (sym is_l) l.whole.at_end)
 
-    pub future : (S : List Step) × (steps L ≡ S ++ steps J) × IsJournalFor service slots (others ++ further) (journal_of (S ++ steps K)) × Alike L (journal_of (S ++ steps K))
+    pub future : (S : List Step) × (steps L ≡ S ++ steps J) × IsJournalFor service slots (others ++ further) (journal_of (S ++ steps K))
+        × Alike L (journal_of (S ++ steps K))
     future = (
       Q,
       longer.1,
       record {
-        legal = legal-journal_of W (any_answer slots) (Q ++ steps K) (meets_on (steps J) (steps K) here Q (subst (EachMeets slots) longer.1 l.legal.each) k.legal.each);
-        truly = subst (course.EachNoted (is_true_for service slots)) (sym steps_m) (noted_on (steps J) (steps K) here service Q (subst (course.EachNoted (is_true_for service slots)) longer.1 l.truly) k.truly);
-        whole = rw calls_made-append (whole-on W (calls_made others) (calls_made further) K M k.legal.in_form (ap journal_of steps_m) k.whole (subst (Reaches W (steps K) (calls_made further)) (sym steps_m) reach));
+        legal = legal-journal_of W (any_answer slots) (Q ++ steps K)
+            (meets_on (steps J) (steps K) here Q (subst (EachMeets slots) longer.1 l.legal.each) k.legal.each);
+        truly = subst (course.EachNoted (is_true_for service slots)) (sym steps_m)
+            (noted_on (steps J) (steps K) here service Q (subst (course.EachNoted (is_true_for service slots)) longer.1 l.truly) k.truly);
+        whole = rw calls_made-append (whole-on W (calls_made others) (calls_made further) K M k.legal.in_form (ap journal_of steps_m) k.whole
+            (subst (Reaches W (steps K) (calls_made further)) (sym steps_m) reach));
       },
       subst (λ (X : List Entry). Alike X M) is_l (alike_on Q (steps J) (steps K) here),
     )

@@ -47,19 +47,22 @@ near_need size (ByDevice d) near = tt
 near_need size (ByPool kind) near = tt
 
 -- the need that holds a program up
-need_near : (slots : List Slot) (J : List Entry) (p : ℕ) (by : Hold) → first_need (lone_world slots J) p ≡ Some (need_of by) → IsNearHold (size_of slots p) (Some (need_of by))
+need_near : (slots : List Slot) (J : List Entry) (p : ℕ) (by : Hold) → first_need (lone_world slots J) p ≡ Some (need_of by)
+    → IsNearHold (size_of slots p) (Some (need_of by))
 unfolding first_need
 need_near slots J p by is =
     near_need (size_of slots p) by
     (subst (λ n. IsNear n (need_of by)) (own_size slots J p)
-    (found_near (own slots J p).stock.claims.size (is_pending_after slots J p) (needs (own slots J p) (mine_after J p)) (need_of by) (needs_near (own slots J p) (mine_after J p)) is))
+    (found_near (own slots J p).stock.claims.size (is_pending_after slots J p) (needs (own slots J p) (mine_after J p)) (need_of by)
+    (needs_near (own slots J p) (mine_after J p)) is))
 
 -- what held program p, by a journal
 abbrev held_by : ℕ → List Entry → Option Need
 held_by p J = option_map need_of (last_hold p J)
 
 -- a step of program p leaves this hold
-near_left : (size p q : ℕ) (new old : Option Hold) → (p ≡ q → IsNearHold size (option_map need_of new)) → IsNearHold size (option_map need_of old) → IsNearHold size (option_map need_of (cond (eqb p q) new old))
+near_left : (size p q : ℕ) (new old : Option Hold) → (p ≡ q → IsNearHold size (option_map need_of new)) → IsNearHold size (option_map need_of old)
+    → IsNearHold size (option_map need_of (cond (eqb p q) new old))
 near_left size p q new old its others =
     ⊎_elim
     (λ (same : p ≡ q). subst (λ b. IsNearHold size (option_map need_of (cond b new old))) (sym (eq-eqb p q same)) (its same))
@@ -74,7 +77,8 @@ near_more slots (Obeys p note ∷ P) m q =
 near_more slots (Holds p by ∷ P) m q =
     rw (last_hold-added q (journal_of P) (Holds p by))
     (near_left (size_of slots q) p q (Some by) (last_hold q (journal_of P))
-    (λ same. subst (λ k. IsNearHold (size_of slots k) (Some (need_of by))) same (need_near slots (journal_of P) p by (held_need (first_need (lone_world slots (journal_of P)) p) by m.1.1)))
+    (λ same. subst (λ k. IsNearHold (size_of slots k) (Some (need_of by))) same
+    (need_near slots (journal_of P) p by (held_need (first_need (lone_world slots (journal_of P)) p) by m.1.1)))
     (near_more slots P m.0 q))
 near_more slots (Waits ∷ P) m q = rw (last_hold-added q (journal_of P) Waits) (near_more slots P m.0 q)
 near_more slots (Moves d n ∷ P) m q = rw (last_hold-added q (journal_of P) (Moves d n)) (near_more slots P m.0 q)

@@ -20,7 +20,8 @@ use Rattle.kdf_theory.proofs.Course.OwnSteps.{own-same}
 use Rattle.kdf_theory.proofs.Course.SeenJournals.{end-none, move-none}
 
 -- where all that is told of program p is the same, so is its state
-same_in : (g h : ℕ → State) (p : ℕ) → g p ≡ h p → (slots : List Slot) → state_in slots (map (λ (x : Slot). g x.p) slots) p ≡ state_in slots (map (λ (x : Slot). h x.p) slots) p
+same_in : (g h : ℕ → State) (p : ℕ) → g p ≡ h p → (slots : List Slot) → state_in slots (map (λ (x : Slot). g x.p) slots) p ≡ state_in slots
+    (map (λ (x : Slot). h x.p) slots) p
 same_in g h p is [] = refl
 same_in g h p is (x ∷ slots) =
     ⊎_elim
@@ -39,7 +40,8 @@ none_of None is = refl
 none_of (Some f) is = cc
 
 module _ (old new : Shown) (are : AreSlots old.slots) (l : IsLegal old.slots old.journal) (shows : ShowsSeen old) where
-  stays : (st : Step) (p : ℕ) → new ≡ entered old st → seen_of old.slots (added old.journal st) p ≡ seen_of old.slots old.journal p → state_of new p ≡ state_of old p
+  stays : (st : Step) (p : ℕ) → new ≡ entered old st → seen_of old.slots (added old.journal st) p ≡ seen_of old.slots old.journal p
+      → state_of new p ≡ state_of old p
   stays st p e same =
       ap (λ (m : Shown). state_of m p) e
       ∙ same_in (seen_of old.slots (added old.journal st)) (seen_of old.slots old.journal) p same old.slots
@@ -63,7 +65,9 @@ module _ (old new : Shown) (are : AreSlots old.slots) (l : IsLegal old.slots old
       (own-same old.slots old.journal (Ends d) p refl refl))
 
   -- an event that runs no program and touches no transfer
-  quiet : (st : Step) → ((p : ℕ) → ran_by p st ≡ 0) → ((p : ℕ) → answers_by p st ≡ []) → ((d : ℕ) → pending_by d (pending d old.journal) st ≡ pending d old.journal) → ((d : ℕ) → moved_by d (moved_if d old.journal) st ≡ moved_if d old.journal) → new ≡ entered old st → new.states ≡ old.states
+  quiet : (st : Step) → ((p : ℕ) → ran_by p st ≡ 0) → ((p : ℕ) → answers_by p st ≡ [])
+      → ((d : ℕ) → pending_by d (pending d old.journal) st ≡ pending d old.journal)
+      → ((d : ℕ) → moved_by d (moved_if d old.journal) st ≡ moved_if d old.journal) → new ≡ entered old st → new.states ≡ old.states
   quiet st none silent same words e =
       ap (λ (m : Shown). m.states) e
       ∙ ap (λ (f : ℕ → State). map (λ (x : Slot). f x.p) old.slots)

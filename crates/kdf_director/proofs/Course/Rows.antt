@@ -1,5 +1,6 @@
 -- Rows of events, whose calls are made at once.
-use Rattle.std.proofs.Common.{◌≡◌, ℕ, ◌+◌, ◌-◌, ◌<◌, ◌≤◌, List, [], ◌∷◌, ◌++◌, refl, sym, ◌∙◌, ap, inl, inr, length, take, drop, get_or, subst, arith, drop-drop}
+use Rattle.std.proofs.Common.{◌≡◌, ℕ, ◌+◌, ◌-◌, ◌<◌, ◌≤◌, List, [], ◌∷◌, ◌++◌, refl, sym, ◌∙◌, ap, inl, inr, length, take, drop, get_or, subst, arith}
+use Rattle.std.proofs.Common.{drop-drop}
 use Rattle.std.specs.Prelude.{replicate, sum_by}
 use Rattle.std.specs.List.{All}
 use Rattle.std.proofs.lemmas.List.{take_more, take-append-drop, replicate-append-replicate}
@@ -76,7 +77,8 @@ module _ (es : List Event) (i k : ℕ) (e : Event) (found : IsRow e (take k (tak
   pub entries_split : sum_by entries_in (drop i es) ≡ entries_in e + sum_by entries_in (drop (i + k) es)
   entries_split =
       sym (sum_by-take-drop entries_in (drop i es) k)
-      ∙ (ap (λ n. n + sum_by entries_in (drop k (drop i es))) (row_entries e (take k (drop i es)) row) ∙ ap (λ fs. entries_in e + sum_by entries_in fs) (drop-drop k i es))
+      ∙ (ap (λ n. n + sum_by entries_in (drop k (drop i es))) (row_entries e (take k (drop i es)) row)
+      ∙ ap (λ fs. entries_in e + sum_by entries_in fs) (drop-drop k i es))
 
   pub rises_split : (t : ℕ) → IsRising t (drop i es) → IsRising t (e ∷ drop (i + k) es)
   rises_split t rises =
@@ -86,7 +88,8 @@ module _ (es : List Event) (i k : ℕ) (e : Event) (found : IsRow e (take k (tak
 -- the first events have no more orders than all
 pub orders_taken : (es : List Event) (i : ℕ) → order_count (take i es) ≤ order_count es
 orders_taken es i =
-    let parts : order_count es ≡ order_count (take i es) + order_count (drop i es) = ap order_count (sym (take-append-drop i es)) ∙ order_count-append (take i es) (drop i es) in
+    let parts : order_count es ≡ order_count (take i es) + order_count (drop i es) = ap order_count (sym (take-append-drop i es))
+    ∙ order_count-append (take i es) (drop i es) in
     omega (arith, parts)
 
 -- one event of orders more
@@ -100,7 +103,8 @@ module _ (es : List Event) (i n : ℕ) (d : Event) (lt : i < length es) (is : ge
 
   pub orders_within : order_count (take i es) + n ≤ order_count es
   orders_within =
-      let parts : order_count es ≡ order_count (take i es) + order_count (drop i es) = ap order_count (sym (take-append-drop i es)) ∙ order_count-append (take i es) (drop i es) in
+      let parts : order_count es ≡ order_count (take i es) + order_count (drop i es) = ap order_count (sym (take-append-drop i es))
+      ∙ order_count-append (take i es) (drop i es) in
       omega (arith, parts, order_count-drop es i d lt, ap orders_in is)
 
   pub some_orders : All IsInRange es → 1 ≤ n

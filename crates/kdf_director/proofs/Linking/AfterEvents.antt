@@ -50,7 +50,8 @@ module _ (m : Inside) (is : IsMachine m) (d : ℕ) (lt : d < 16) where
     yard_then t later runs =
         record { placed = is.yard.placed; many = is.yard.many; dry = dry; running = subst (λ (x : Shared). IsRunning rs ps x) (sym later) runs }
 
-    module _ (n : ℕ) (store_is : store ≡ m.store) (spots : map spot_of places ≡ set (map spot_of m.devices.items) d (moved_spot n (spot_at (map spot_of m.devices.items) d))) where
+    module _ (n : ℕ) (store_is : store ≡ m.store)
+        (spots : map spot_of places ≡ set (map spot_of m.devices.items) d (moved_spot n (spot_at (map spot_of m.devices.items) d))) where
       later_moved : shared_in store places ≡ after_move d n s
       later_moved = ap₂ share store_is spots
 
@@ -60,7 +61,8 @@ module _ (m : Inside) (is : IsMachine m) (d : ℕ) (lt : d < 16) where
       pub yard_moved : IsYard m.slots.items m.windows store m.programs.items places
       yard_moved = yard_then (after_move d n s) later_moved (flown_running rs ps s d is.yard.running small n)
 
-    module _ (store_is : store ≡ back_cells (last_lease (spot_at (map spot_of m.devices.items) d).flight) m.store) (spots : map spot_of places ≡ set (map spot_of m.devices.items) d (ended_spot (spot_at (map spot_of m.devices.items) d))) where
+    module _ (store_is : store ≡ back_cells (last_lease (spot_at (map spot_of m.devices.items) d).flight) m.store)
+        (spots : map spot_of places ≡ set (map spot_of m.devices.items) d (ended_spot (spot_at (map spot_of m.devices.items) d))) where
       later_ended : shared_in store places ≡ after_end d s
       later_ended = ap₂ share store_is spots
 
@@ -74,37 +76,41 @@ module _ (m : Inside) (is : IsMachine m) (d : ℕ) (lt : d < 16) where
   pub comes_back : IsBack m.store (last_lease (spot_at (map spot_of m.devices.items) d).flight)
   comes_back = back rs ps s d is.yard.running small
 
-module _ (y : Standing) (J : Recorded) (room : ℕ) (ready : IsReady y J room) (some : 0 < room) (z : Standing) (K : Recorded) (taken : J.spare ≤ K.spare + 1) where
-  abbrev old : Shown
-  old = shown_of y J room
+module _ (y : Standing) (J : Recorded) (room : ℕ) (ready : IsReady y J room) (some : 0 < room) (z : Standing) (K : Recorded) (taken : J.spare ≤ K.spare + 1)
+  where
+    abbrev old : Shown
+    old = shown_of y J room
 
-  abbrev new : Shown
-  new = shown_of z K (room - 1)
+    abbrev new : Shown
+    new = shown_of z K (room - 1)
 
-  module _ (d n : ℕ) (lt : d < 16) (few : n ≤ 4096) (is : z ≡ record y { shared = after_move d n y.shared }) (journal : K.entries ≡ added J.entries (Moves d n)) where
-    agrees_moved : Agrees y.slots y.reaches y.seats (after_move d n y.shared) (added J.entries (Moves d n))
-    agrees_moved = moved y.slots y.reaches y.seats y.shared J.entries ready.agrees d n lt (let f = ready.few_words in omega arith)
+    module _ (d n : ℕ) (lt : d < 16) (few : n ≤ 4096) (is : z ≡ record y { shared = after_move d n y.shared })
+        (journal : K.entries ≡ added J.entries (Moves d n)) where
+      agrees_moved : Agrees y.slots y.reaches y.seats (after_move d n y.shared) (added J.entries (Moves d n))
+      agrees_moved = moved y.slots y.reaches y.seats y.shared J.entries ready.agrees d n lt (let f = ready.few_words in omega arith)
 
-    pub ready_moved : IsReady z K (room - 1)
-    ready_moved = ready_more y J room ready some z K taken (Moves d n) (after_move d n y.shared) is (λ p. refl) journal few agrees_moved
+      pub ready_moved : IsReady z K (room - 1)
+      ready_moved = ready_more y J room ready some z K taken (Moves d n) (after_move d n y.shared) is (λ p. refl) journal few agrees_moved
 
-    pub shown_moved : new ≡ entered old (Moves d n)
-    shown_moved = entered_more y J room ready some z K taken (Moves d n) (after_move d n y.shared) is (λ p. refl) journal few agrees_moved
+      pub shown_moved : new ≡ entered old (Moves d n)
+      shown_moved = entered_more y J room ready some z K taken (Moves d n) (after_move d n y.shared) is (λ p. refl) journal few agrees_moved
 
-    pub others_moved : OthersStay old new d
-    others_moved = stay-moved old new ready.agrees.are ready.agrees.legal (shown_seen y J room ready) d n shown_moved
+      pub others_moved : OthersStay old new d
+      others_moved = stay-moved old new ready.agrees.are ready.agrees.legal (shown_seen y J room ready) d n shown_moved
 
-  module _ (d : ℕ) (lt : d < 16) (is : z ≡ record y { shared = after_end d y.shared }) (journal : K.entries ≡ added J.entries (Ends d)) where
-    pub ready_ended : IsReady z K (room - 1)
-    ready_ended =
-        ready_more y J room ready some z K taken (Ends d) (after_end d y.shared) is (λ p. refl) journal (omega arith) (ended y.slots y.reaches y.seats y.shared J.entries ready.agrees d lt)
+    module _ (d : ℕ) (lt : d < 16) (is : z ≡ record y { shared = after_end d y.shared }) (journal : K.entries ≡ added J.entries (Ends d)) where
+      pub ready_ended : IsReady z K (room - 1)
+      ready_ended =
+          ready_more y J room ready some z K taken (Ends d) (after_end d y.shared) is (λ p. refl) journal (omega arith)
+          (ended y.slots y.reaches y.seats y.shared J.entries ready.agrees d lt)
 
-    pub shown_ended : new ≡ entered old (Ends d)
-    shown_ended =
-        entered_more y J room ready some z K taken (Ends d) (after_end d y.shared) is (λ p. refl) journal (omega arith) (ended y.slots y.reaches y.seats y.shared J.entries ready.agrees d lt)
+      pub shown_ended : new ≡ entered old (Ends d)
+      shown_ended =
+          entered_more y J room ready some z K taken (Ends d) (after_end d y.shared) is (λ p. refl) journal (omega arith)
+          (ended y.slots y.reaches y.seats y.shared J.entries ready.agrees d lt)
 
-    pub others_ended : OthersStay old new d
-    others_ended = stay-ended old new ready.agrees.are ready.agrees.legal (shown_seen y J room ready) d shown_ended
+      pub others_ended : OthersStay old new d
+      others_ended = stay-ended old new ready.agrees.are ready.agrees.legal (shown_seen y J room ready) d shown_ended
 
 module _ (y : Standing) (J : Recorded) (room : ℕ) (ready : IsReady y J room) (some : 0 < room) (K : Recorded) (taken : J.spare ≤ K.spare + 1) where
   abbrev was : Shown
@@ -115,10 +121,12 @@ module _ (y : Standing) (J : Recorded) (room : ℕ) (ready : IsReady y J room) (
 
   module _ (t : ℕ) (rises : clock J.entries ≤ t) (journal : K.entries ≡ added J.entries (Sets t)) where
     pub ready_timed : IsReady y K (room - 1)
-    ready_timed = ready_more y J room ready some y K taken (Sets t) y.shared refl (λ p. refl) journal (omega arith) (timed y.slots y.reaches y.seats y.shared J.entries ready.agrees t rises)
+    ready_timed = ready_more y J room ready some y K taken (Sets t) y.shared refl (λ p. refl) journal (omega arith)
+        (timed y.slots y.reaches y.seats y.shared J.entries ready.agrees t rises)
 
     pub shown_timed : then ≡ entered was (Sets t)
-    shown_timed = entered_more y J room ready some y K taken (Sets t) y.shared refl (λ p. refl) journal (omega arith) (timed y.slots y.reaches y.seats y.shared J.entries ready.agrees t rises)
+    shown_timed = entered_more y J room ready some y K taken (Sets t) y.shared refl (λ p. refl) journal (omega arith)
+        (timed y.slots y.reaches y.seats y.shared J.entries ready.agrees t rises)
 
     pub states_timed : then.states ≡ was.states
     states_timed = stay-timed was then ready.agrees.are ready.agrees.legal (shown_seen y J room ready) t shown_timed
@@ -126,11 +134,13 @@ module _ (y : Standing) (J : Recorded) (room : ℕ) (ready : IsReady y J room) (
   module _ (p q : ℕ) (slots_are : (p < 4) × (q < 4)) (journal : K.entries ≡ added J.entries (Swaps p q)) where
     pub ready_exchanged : IsReady y K (room - 1)
     ready_exchanged =
-        ready_more y J room ready some y K taken (Swaps p q) y.shared refl (λ k. refl) journal (omega arith) (exchanged y.slots y.reaches y.seats y.shared J.entries ready.agrees p q slots_are)
+        ready_more y J room ready some y K taken (Swaps p q) y.shared refl (λ k. refl) journal (omega arith)
+        (exchanged y.slots y.reaches y.seats y.shared J.entries ready.agrees p q slots_are)
 
     pub shown_exchanged : then ≡ entered was (Swaps p q)
     shown_exchanged =
-        entered_more y J room ready some y K taken (Swaps p q) y.shared refl (λ k. refl) journal (omega arith) (exchanged y.slots y.reaches y.seats y.shared J.entries ready.agrees p q slots_are)
+        entered_more y J room ready some y K taken (Swaps p q) y.shared refl (λ k. refl) journal (omega arith)
+        (exchanged y.slots y.reaches y.seats y.shared J.entries ready.agrees p q slots_are)
 
     pub states_exchanged : then.states ≡ was.states
     states_exchanged = stay-exchanged was then ready.agrees.are ready.agrees.legal (shown_seen y J room ready) p q shown_exchanged

@@ -59,7 +59,9 @@ module _ (slots : List Slot) (reaches : List Reach) (seats : List Seat) (s : Sha
       ∙ map_twice (seen_of slots J) (λ (x : Slot). x.p) slots
 
   -- ---- an event more
-  more : (st : Step) (s' : Shared) → Meets (lone_world slots J) slots J 0 st → calls_by st ≡ 0 → moves J + moves_by st ≤ MOVE_LIMIT → IsRunning reaches seats s' → AreFollowing slots (added J st) reaches seats s' → AreLent (added J st) reaches seats → Agrees slots reaches seats s' (added J st)
+  more : (st : Step) (s' : Shared) → Meets (lone_world slots J) slots J 0 st → calls_by st ≡ 0 → moves J + moves_by st ≤ MOVE_LIMIT
+      → IsRunning reaches seats s' → AreFollowing slots (added J st) reaches seats s' → AreLent (added J st) reaches seats
+      → Agrees slots reaches seats s' (added J st)
   more st s' meets none few running following lent =
       record {
         are = a.are;
@@ -77,13 +79,15 @@ module _ (slots : List Slot) (reaches : List Reach) (seats : List Seat) (s : Sha
   pub moved : (d n : ℕ) → d < 16 → moves J + n ≤ MOVE_LIMIT → Agrees slots reaches seats (after_move d n s) (added J (Moves d n))
   moved d n lt few =
       let small : d < device_count = omega (arith, limit_is) in
-      more (Moves d n) (after_move d n s) tt refl few (flown_running reaches seats s d a.running small n) (flown_follows slots J reaches seats s a.are a.legal a.running a.following d small n)
+      more (Moves d n) (after_move d n s) tt refl few (flown_running reaches seats s d a.running small n)
+      (flown_follows slots J reaches seats s a.are a.legal a.running a.following d small n)
       (λ i e within pooled. a.lent i e within pooled ∙ sym (holder-quiet e J (Moves d n) refl (λ q. refl)))
 
   pub ended : (d : ℕ) → d < 16 → Agrees slots reaches seats (after_end d s) (added J (Ends d))
   ended d lt =
       let small : d < device_count = omega (arith, limit_is) in
-      more (Ends d) (after_end d s) tt refl (let few = a.few_moves in omega arith) (ended_running reaches seats s d a.running small) (ended_follows slots J reaches seats s a.are a.legal a.running a.following d small)
+      more (Ends d) (after_end d s) tt refl (let few = a.few_moves in omega arith) (ended_running reaches seats s d a.running small)
+      (ended_follows slots J reaches seats s a.are a.legal a.running a.following d small)
       (λ i e within pooled. a.lent i e within pooled ∙ sym (holder-quiet e J (Ends d) refl (λ q. refl)))
 
   pub timed : (t : ℕ) → clock J ≤ t → Agrees slots reaches seats s (added J (Sets t))
@@ -93,7 +97,8 @@ module _ (slots : List Slot) (reaches : List Reach) (seats : List Seat) (s : Sha
 
   pub exchanged : (p q : ℕ) → (p < 4) × (q < 4) → Agrees slots reaches seats s (added J (Swaps p q))
   exchanged p q slots_are =
-      more (Swaps p q) s slots_are refl (let few = a.few_moves in omega arith) a.running (exchanged_follows slots J reaches seats s a.are a.legal a.running a.following p q)
+      more (Swaps p q) s slots_are refl (let few = a.few_moves in omega arith) a.running
+      (exchanged_follows slots J reaches seats s a.are a.legal a.running a.following p q)
       (λ i e within pooled. a.lent i e within pooled ∙ sym (holder-quiet e J (Swaps p q) refl (λ q. refl)))
 
 -- ---- how things stand
@@ -102,11 +107,14 @@ module _ (y : Standing) (J : Recorded) (room : ℕ) (ready : IsReady y J room) w
   shown_seen = shows y.slots y.reaches y.seats y.shared J.entries ready.agrees
 
   -- an event is entered, of which what is shared is this
-  module _ (some : 0 < room) (z : Standing) (K : Recorded) (taken : J.spare ≤ K.spare + 1) (st : Step) (t : Shared) (is : z ≡ record y { shared = t }) (quiet : (p : ℕ) → hold_by p (last_hold p J.entries) st ≡ last_hold p J.entries) (journal : K.entries ≡ added J.entries st) (words : moves_by st ≤ 4096) (agrees : Agrees y.slots y.reaches y.seats t (added J.entries st)) where
+  module _ (some : 0 < room) (z : Standing) (K : Recorded) (taken : J.spare ≤ K.spare + 1) (st : Step) (t : Shared) (is : z ≡ record y { shared = t })
+      (quiet : (p : ℕ) → hold_by p (last_hold p J.entries) st ≡ last_hold p J.entries) (journal : K.entries ≡ added J.entries st) (words : moves_by st ≤ 4096)
+      (agrees : Agrees y.slots y.reaches y.seats t (added J.entries st)) where
     -- the holds stay where a step names no program
     holds_more : y.holds ≡ map (λ (x : Seat). option_map need_of (last_hold x.p (added J.entries st))) y.seats
     holds_more =
-        ready.holds ∙ ap (λ (f : Seat → Option Need). map f y.seats) (fun_ext (λ (x : Seat). ap (option_map need_of) (sym (last_hold-added x.p J.entries st ∙ quiet x.p))))
+        ready.holds ∙ ap (λ (f : Seat → Option Need). map f y.seats)
+        (fun_ext (λ (x : Seat). ap (option_map need_of) (sym (last_hold-added x.p J.entries st ∙ quiet x.p))))
 
     pub ready_more : IsReady z K (room - 1)
     ready_more =

@@ -38,7 +38,8 @@ ended_none : (x : Spot) (o : Option Held) → x.flight ≡ o → (ended_by x o).
 ended_none x None idle = idle
 ended_none x (Some h) flies = refl
 
-module _ (slots : List Slot) (J : List Entry) (reaches : List Reach) (seats : List Seat) (s : Shared) (are : AreSlots slots) (legal : IsLegal slots J) (run : IsRunning reaches seats s) (old : AreFollowing slots J reaches seats s) where
+module _ (slots : List Slot) (J : List Entry) (reaches : List Reach) (seats : List Seat) (s : Shared) (are : AreSlots slots) (legal : IsLegal slots J)
+    (run : IsRunning reaches seats s) (old : AreFollowing slots J reaches seats s) where
   abbrev q : ℕ → Part
   q i = part_at reaches seats i
 
@@ -60,8 +61,10 @@ module _ (slots : List Slot) (J : List Entry) (reaches : List Reach) (seats : Li
     flown_follows n =
         record {
           each = λ i lt.
-              subst (λ k. IsFollowing slots (added J (Moves d n)) (q i) (own_state reaches seats (after_move d n s) k i) (after_move d n s)) (sym (same_asked i (Moves d n) refl))
-              (subst (λ x. IsFollowing slots (added J (Moves d n)) (q i) x (after_move d n s)) (sym (flown_own reaches seats s d run small n (asked_at seats J i) i lt))
+              subst (λ k. IsFollowing slots (added J (Moves d n)) (q i) (own_state reaches seats (after_move d n s) k i) (after_move d n s))
+              (sym (same_asked i (Moves d n) refl))
+              (subst (λ x. IsFollowing slots (added J (Moves d n)) (q i) x (after_move d n s))
+              (sym (flown_own reaches seats s d run small n (asked_at seats J i) i lt))
               (follow_move slots J (q i) (own_state reaches seats s (asked_at seats J i) i) s d (asked (q i).p) (course (q i).p) (old.each i lt) inside n));
           busy = λ e.
               ⊎_elim
@@ -80,8 +83,10 @@ module _ (slots : List Slot) (J : List Entry) (reaches : List Reach) (seats : Li
     ended_follows =
         record {
           each = λ i lt.
-              subst (λ k. IsFollowing slots (added J (Ends d)) (q i) (own_state reaches seats (after_end d s) k i) (after_end d s)) (sym (same_asked i (Ends d) refl))
-              (subst (λ x. IsFollowing slots (added J (Ends d)) (q i) x (after_end d s)) (sym (ended_state reaches seats s d run small (asked_at seats J i) i lt))
+              subst (λ k. IsFollowing slots (added J (Ends d)) (q i) (own_state reaches seats (after_end d s) k i) (after_end d s))
+              (sym (same_asked i (Ends d) refl))
+              (subst (λ x. IsFollowing slots (added J (Ends d)) (q i) x (after_end d s))
+              (sym (ended_state reaches seats s d run small (asked_at seats J i) i lt))
               (follow_end slots J (q i) (own_state reaches seats s (asked_at seats J i) i) s d (asked (q i).p) (course (q i).p) (old.each i lt) inside));
           busy = λ e.
               ⊎_elim
@@ -99,7 +104,8 @@ module _ (slots : List Slot) (J : List Entry) (reaches : List Reach) (seats : Li
         }
 
   -- a step of no order, that touches no transfer
-  quiet_follows : (st : Step) → ((p : ℕ) → ran_by p st ≡ 0) → ((p : ℕ) → answers_by p st ≡ []) → ((d : ℕ) → pending_by d (pending d J) st ≡ pending d J) → ((d : ℕ) → moved_by d (moved_if d J) st ≡ moved_if d J) → AreFollowing slots (added J st) reaches seats s
+  quiet_follows : (st : Step) → ((p : ℕ) → ran_by p st ≡ 0) → ((p : ℕ) → answers_by p st ≡ []) → ((d : ℕ) → pending_by d (pending d J) st ≡ pending d J)
+      → ((d : ℕ) → moved_by d (moved_if d J) st ≡ moved_if d J) → AreFollowing slots (added J st) reaches seats s
   quiet_follows st none silent same words =
       record {
         each = λ i lt.
@@ -112,7 +118,8 @@ module _ (slots : List Slot) (J : List Entry) (reaches : List Reach) (seats : Li
       }
 
   -- what is seen then is what was seen
-  quiet_seen : (st : Step) → ((p : ℕ) → ran_by p st ≡ 0) → ((p : ℕ) → answers_by p st ≡ []) → ((d : ℕ) → pending_by d (pending d J) st ≡ pending d J) → ((d : ℕ) → moved_by d (moved_if d J) st ≡ moved_if d J) → (p : ℕ) → seen_of slots (added J st) p ≡ seen_of slots J p
+  quiet_seen : (st : Step) → ((p : ℕ) → ran_by p st ≡ 0) → ((p : ℕ) → answers_by p st ≡ []) → ((d : ℕ) → pending_by d (pending d J) st ≡ pending d J)
+      → ((d : ℕ) → moved_by d (moved_if d J) st ≡ moved_if d J) → (p : ℕ) → seen_of slots (added J st) p ≡ seen_of slots J p
   quiet_seen st none silent same words p =
       ap₂ seen (fun_ext (flights-quiet slots J st p (asked p) same words (course p))) (own-same slots J st p (none p) (silent p))
 

@@ -3,7 +3,8 @@ use Rattle.std.specs.Prelude.{find, slice_get, IfSome, IsSomeAnd}
 use Rattle.std.specs.List.{All}
 use Rattle.std.specs.Option.{option_copied, option_map}
 use denote.Ref.{Bor}
-use Rattle.std.proofs.Common.{◌≡◌, ℕ, ◌+◌, ◌*◌, ◌<◌, ◌≤◌, Bool, true, false, eqb, List, [], ◌∷◌, length, get_or, map, Option, Some, None, is_some, refl, sym, ap, ◌∙◌, subst, arith}
+use Rattle.std.proofs.Common.{◌≡◌, ℕ, ◌+◌, ◌*◌, ◌<◌, ◌≤◌, Bool, true, false, eqb, List, [], ◌∷◌, length, get_or, map, Option, Some, None, is_some, refl, sym}
+use Rattle.std.proofs.Common.{ap, ◌∙◌, subst, arith}
 use Rattle.std.proofs.lemmas.List.{length-map}
 use Rattle.kdf_journal.specs.declared.entry.Entry.{Entry}
 use Rattle.kdf_journal.specs.Counts.{holder, pending}
@@ -135,21 +136,26 @@ module _ (fields : Inside) (is_machine : IsMachine fields) where
   unfolding own_state
   texts_are i = refl
 
-  pub registers_shown : (p : ℕ) → option_map (λ (x : Program). x.registers) (find (λ (x : Program). eqb x.p p) programs) ≡ option_map (λ (x : State). x.registers) (state_of m p)
+  pub registers_shown : (p : ℕ) → option_map (λ (x : Program). x.registers) (find (λ (x : Program). eqb x.p p) programs) ≡ option_map
+      (λ (x : State). x.registers) (state_of m p)
   registers_shown p =
       sym (twice (λ (x : Seat). x.registers) seat_of (find (λ (x : Program). eqb x.p p) programs))
       ∙ ap (option_map (λ (x : Seat). x.registers)) (sym (found p))
       ∙ told_of xs rs ps s J room ready.agrees (λ (x : Seat). x.registers) (λ (x : State). x.registers) p (λ i lt. registers_are i)
 
   -- the texts of a program that is there
-  pub texts_shown : (p : ℕ) (texts : List Spooled) → is_some (state_of m p) ≡ true → IfSome (find (λ (x : Program). eqb x.p p) programs) (λ (x : Program). texts ≡ x.spooled.items) → IsSomeAnd (state_of m p) (λ (x : State). texts ≡ x.stock.spooled)
+  pub texts_shown : (p : ℕ) (texts : List Spooled) → is_some (state_of m p) ≡ true
+      → IfSome (find (λ (x : Program). eqb x.p p) programs) (λ (x : Program). texts ≡ x.spooled.items)
+      → IsSomeAnd (state_of m p) (λ (x : State). texts ≡ x.stock.spooled)
   texts_shown p texts is told =
       by_both (find (λ (x : Program). eqb x.p p) programs) (state_of m p) is
       (sym (twice (λ (x : Seat). x.spooled) seat_of (find (λ (x : Program). eqb x.p p) programs))
       ∙ ap (option_map (λ (x : Seat). x.spooled)) (sym (found p))
       ∙ told_of xs rs ps s J room ready.agrees (λ (x : Seat). x.spooled) (λ (x : State). x.stock.spooled) p (λ i lt. texts_are i)) told
     where
-      by_both : (o : Option Program) (k : Option State) → is_some k ≡ true → option_map (λ (x : Program). x.spooled.items) o ≡ option_map (λ (x : State). x.stock.spooled) k → IfSome o (λ (x : Program). texts ≡ x.spooled.items) → IsSomeAnd k (λ (x : State). texts ≡ x.stock.spooled)
+      by_both : (o : Option Program) (k : Option State) → is_some k ≡ true
+          → option_map (λ (x : Program). x.spooled.items) o ≡ option_map (λ (x : State). x.stock.spooled) k
+          → IfSome o (λ (x : Program). texts ≡ x.spooled.items) → IsSomeAnd k (λ (x : State). texts ≡ x.stock.spooled)
       by_both o None is same told = cc
       by_both None (Some y) is same told = cc
       by_both (Some x) (Some y) is same told = let e : x.spooled.items ≡ y.stock.spooled = cc in told ∙ e
@@ -164,7 +170,8 @@ module _ (fields : Inside) (is_machine : IsMachine fields) where
     program = find (λ (x : Program). eqb x.p p) programs
 
     -- a program that is there, with its stints
-    stints_at : (x : Program) → program ≡ Some x → (i : ℕ) × (i < length ps) × (seat_at ps i ≡ seat_of x) × (state_of m p ≡ Some (own_state rs ps s (asked_at ps J i) i))
+    stints_at : (x : Program) → program ≡ Some x → (i : ℕ) × (i < length ps) × (seat_at ps i ≡ seat_of x)
+        × (state_of m p ≡ Some (own_state rs ps s (asked_at ps J i) i))
     stints_at x is = found_state xs rs ps s J room ready.agrees p (seat_of x) (found p ∙ ap (option_map seat_of) is)
 
     stints_own : (i n : ℕ) → (own_state rs ps s n i).stock ≡ own_stock (part_at rs ps i) n s
@@ -190,12 +197,14 @@ module _ (fields : Inside) (is_machine : IsMachine fields) where
     no_state none = none_state xs rs ps s J room ready.agrees p (found p ∙ ap (option_map seat_of) none)
 
     -- what holds of a program that is there and of its state
-    by_both : (P : Program → Type 0) (Q : State → Type 0) → ((x : Program) (y : State) → program ≡ Some x → state_of m p ≡ Some y → P x → Q y) → (o : Option Program) → program ≡ o → (k : Option State) → state_of m p ≡ k → is_some k ≡ true → IfSome o P → IsSomeAnd k Q
+    by_both : (P : Program → Type 0) (Q : State → Type 0) → ((x : Program) (y : State) → program ≡ Some x → state_of m p ≡ Some y → P x → Q y)
+        → (o : Option Program) → program ≡ o → (k : Option State) → state_of m p ≡ k → is_some k ≡ true → IfSome o P → IsSomeAnd k Q
     by_both P Q then o e None f is told = cc
     by_both P Q then None e (Some y) f is told = cc (sym f ∙ no_state e)
     by_both P Q then (Some x) e (Some y) f is told = then x y e f told
 
-    pub stints_shown : (xs' : List Stint) → is_some (state_of m p) ≡ true → IfSome program (λ (x : Program). xs' ≡ x.stints.items) → IsSomeAnd (state_of m p) (λ (y : State). length xs' ≡ length (lendings y.stock))
+    pub stints_shown : (xs' : List Stint) → is_some (state_of m p) ≡ true → IfSome program (λ (x : Program). xs' ≡ x.stints.items)
+        → IsSomeAnd (state_of m p) (λ (y : State). length xs' ≡ length (lendings y.stock))
     stints_shown xs' is told =
         by_both (λ (x : Program). xs' ≡ x.stints.items) (λ (y : State). length xs' ≡ length (lendings y.stock))
         (λ x y e f same. ap length same ∙ sym (count_is x y e f)) program refl (state_of m p) refl is told
@@ -211,7 +220,8 @@ module _ (fields : Inside) (is_machine : IsMachine fields) where
       pub stint_there : IsSomeAnd program (λ (x : Program). i < length x.stints.items)
       stint_there = by_state program refl (state_of m p) refl below
         where
-          by_state : (o : Option Program) → program ≡ o → (k : Option State) → state_of m p ≡ k → IsSomeAnd k (λ (y : State). i < length (lendings y.stock)) → IsSomeAnd o (λ (x : Program). i < length x.stints.items)
+          by_state : (o : Option Program) → program ≡ o → (k : Option State) → state_of m p ≡ k → IsSomeAnd k (λ (y : State). i < length (lendings y.stock))
+              → IsSomeAnd o (λ (x : Program). i < length x.stints.items)
           by_state o e None f lt = absurd lt
           by_state None e (Some y) f lt = cc (sym f ∙ no_state e)
           by_state (Some x) e (Some y) f lt = omega (arith, count_is x y e f)
@@ -225,13 +235,18 @@ module _ (fields : Inside) (is_machine : IsMachine fields) where
               subst (HasLent (map spot_of places)) (same_stints x e)
               (λ j k lt lent. all_lent x e j k lt lent)
             where
-              all_lent : (x : Program) (e : program ≡ Some x) (j : ℕ) (k : Keeping) → j < length (part_at rs ps (stints_at x e).0).stints → is_lent (get_or (part_at rs ps (stints_at x e).0).stints j k).loan ≡ true → is_some (spot_at (map spot_of places) (get_or (part_at rs ps (stints_at x e).0).stints j k).device).fixture ≡ true
+              all_lent : (x : Program) (e : program ≡ Some x) (j : ℕ) (k : Keeping) → j < length (part_at rs ps (stints_at x e).0).stints
+                  → is_lent (get_or (part_at rs ps (stints_at x e).0).stints j k).loan ≡ true
+                  → is_some (spot_at (map spot_of places) (get_or (part_at rs ps (stints_at x e).0).stints j k).device).fixture ≡ true
               all_lent x e j k lt lent =
                   there_lent_any (part_at rs ps (stints_at x e).0) s (kept_at x e) j k lt lent
 
-      pub stint_shown : (d : ℕ) (given : Bool) (device : Device) → IfSome program (λ (x : Program). IsTold (map spot_of places) (get_or (map keeping_of x.stints.items) i no_keeping) d given device) → IsSomeAnd (state_of m p) (λ (y : State). IfSome (slice_get (lendings y.stock) i) (λ l. IsStint l d given device))
+      pub stint_shown : (d : ℕ) (given : Bool) (device : Device)
+          → IfSome program (λ (x : Program). IsTold (map spot_of places) (get_or (map keeping_of x.stints.items) i no_keeping) d given device)
+          → IsSomeAnd (state_of m p) (λ (y : State). IfSome (slice_get (lendings y.stock) i) (λ l. IsStint l d given device))
       stint_shown d given device told =
-          by_both (λ (x : Program). IsTold (map spot_of places) (get_or (map keeping_of x.stints.items) i no_keeping) d given device) (λ (y : State). IfSome (slice_get (lendings y.stock) i) (λ l. IsStint l d given device))
+          by_both (λ (x : Program). IsTold (map spot_of places) (get_or (map keeping_of x.stints.items) i no_keeping) d given device)
+          (λ (y : State). IfSome (slice_get (lendings y.stock) i) (λ l. IsStint l d given device))
           (λ x y e f is. stint_of_program x y e f is) program refl (state_of m p) refl (some_state (state_of m p) below) told
         where
           some_state : (k : Option State) → IsSomeAnd k (λ (y : State). i < length (lendings y.stock)) → is_some k ≡ true
@@ -241,7 +256,9 @@ module _ (fields : Inside) (is_machine : IsMachine fields) where
           one_state : {a b : State} → Some a ≡ Some b → a ≡ b
           one_state e = cc
 
-          stint_of_program : (x : Program) (y : State) → program ≡ Some x → state_of m p ≡ Some y → IsTold (map spot_of places) (get_or (map keeping_of x.stints.items) i no_keeping) d given device → IfSome (slice_get (lendings y.stock) i) (λ l. IsStint l d given device)
+          stint_of_program : (x : Program) (y : State) → program ≡ Some x → state_of m p ≡ Some y
+              → IsTold (map spot_of places) (get_or (map keeping_of x.stints.items) i no_keeping) d given device
+              → IfSome (slice_get (lendings y.stock) i) (λ l. IsStint l d given device)
           stint_of_program x y e f is =
               let at = stints_at x e in
               let q = part_at rs ps at.0 in
@@ -249,20 +266,25 @@ module _ (fields : Inside) (is_machine : IsMachine fields) where
               let same : own_state rs ps s n at.0 ≡ y = one_state (sym at.3 ∙ f) in
               subst (λ (z : State). IfSome (slice_get (lendings z.stock) i) (λ l. IsStint l d given device)) same
               (subst (λ k. IfSome (slice_get (lendings k) i) (λ l. IsStint l d given device)) (sym (stints_own at.0 n))
-              (stint_in_own q n s (kept_at x e) i d given device (subst (λ zs. IsTold (map spot_of places) (get_or zs i no_keeping) d given device) (sym (same_stints x e)) is)))
+              (stint_in_own q n s (kept_at x e) i d given device
+              (subst (λ zs. IsTold (map spot_of places) (get_or zs i no_keeping) d given device) (sym (same_stints x e)) is)))
 
-  module _ (p address : ℕ) (there : IsSomeAnd (state_of m p) (λ (x : State). address < x.stock.claims.size)) (window : Window) (is : window ≡ window_at windows p) where
+  module _ (p address : ℕ) (there : IsSomeAnd (state_of m p) (λ (x : State). address < x.stock.claims.size)) (window : Window)
+      (is : window ≡ window_at windows p) where
     pub word_below : address < window.size
     word_below =
         subst (λ (w : Window). address < w.size) (sym is)
-        (from_some (state_of m p) (λ (x : State). address < x.stock.claims.size) _ (λ x is lt. below windows slots ps s J room many ready.agrees is_machine.yard.placed p x is address lt) there)
+        (from_some (state_of m p) (λ (x : State). address < x.stock.claims.size) _
+        (λ x is lt. below windows slots ps s J room many ready.agrees is_machine.yard.placed p x is address lt) there)
 
     pub word_in_store : window.base + window.size ≤ 32 * length store
     word_in_store =
         subst (λ (w : Window). w.base + w.size ≤ 32 * length store) (sym is)
-        (from_some (state_of m p) (λ (x : State). address < x.stock.claims.size) _ (λ x is lt. in_store windows slots ps s J room many ready.agrees is_machine.yard.placed p x is) there)
+        (from_some (state_of m p) (λ (x : State). address < x.stock.claims.size) _
+        (λ x is lt. in_store windows slots ps s J room many ready.agrees is_machine.yard.placed p x is) there)
 
-    pub word_shown : (w : ℕ) → w ≡ word_at_place store (leases_of (map spot_of places)) (window.base + address) → IsSomeAnd (state_of m p) (λ (x : State). w ≡ word_at x address)
+    pub word_shown : (w : ℕ) → w ≡ word_at_place store (leases_of (map spot_of places)) (window.base + address)
+        → IsSomeAnd (state_of m p) (λ (x : State). w ≡ word_at x address)
     word_shown w same =
         some_and (state_of m p) (λ (x : State). address < x.stock.claims.size) _
         (λ x there lt.
@@ -274,7 +296,8 @@ module _ (fields : Inside) (is_machine : IsMachine fields) where
   -- ---- devices
   module _ (d : ℕ) where
     -- a device that was found for these slots and places, which are the machine's
-    module _ (o : Option Device) (slots' : List Loaded) (places' : List Place) (same : slots' ≡ slots) (same' : places' ≡ places) (is : IsDeviceOwned (owner_in slots' d) (spot_at (map spot_of places') d) o) where
+    module _ (o : Option Device) (slots' : List Loaded) (places' : List Place) (same : slots' ≡ slots) (same' : places' ≡ places)
+        (is : IsDeviceOwned (owner_in slots' d) (spot_at (map spot_of places') d) o) where
       owned : IsDeviceOwned (owner_in slots d) (spot_at (map spot_of places) d) o
       owned =
           subst (λ xs. IsDeviceOwned (owner_in xs d) (spot_at (map spot_of places) d) o) same
@@ -307,11 +330,13 @@ module _ (fields : Inside) (is_machine : IsMachine fields) where
     abbrev pub claims_it : Bool
     claims_it = is_claimed_by (owner_in slots d) ps pool J d
 
-    pub claimed_shown : (p : ℕ) (is : Bool) → is ≡ claims_it → IfSome (state_of m p) (λ (x : State). is_some (own_fixture_at x.stock.claims d) ≡ true → is ≡ is_claimed x.stock.claims d)
+    pub claimed_shown : (p : ℕ) (is : Bool) → is ≡ claims_it → IfSome (state_of m p) (λ (x : State). is_some (own_fixture_at x.stock.claims d) ≡ true
+        → is ≡ is_claimed x.stock.claims d)
     claimed_shown p is same = if_some (state_of m p) _ (λ x there some. same ∙ claimed_own windows slots xs ps s J room many ready.agrees d pool p x there some)
 
     pub pool_shown : (p : ℕ) (is : Bool) → is ≡ claims_it → IfSome (state_of m p) (λ (x : State). is_pooled x.stock.claims d ≡ true → is ≡ is_some (holder d J))
-    pool_shown p is same = if_some (state_of m p) _ (λ x there pooled. same ∙ claimed_pooled windows slots xs ps s J room many ready.agrees d pool lends p x there pooled)
+    pool_shown p is same = if_some (state_of m p) _ (λ x there pooled. same
+        ∙ claimed_pooled windows slots xs ps s J room many ready.agrees d pool lends p x there pooled)
 
     pub claimed_absent : All (λ (x : State). fixture_at x.stock.claims d ≡ None) m.states → is_claimed_by (owner_in slots d) ps pool J d ≡ false
     claimed_absent none = claimed_none windows slots xs ps s J room many ready.agrees d pool lends none_lent none
@@ -334,7 +359,8 @@ module _ (fields : Inside) (is_machine : IsMachine fields) where
       ∙ find_map (λ (x : Slot). x.p) (λ k. eqb k p) xs)
       ∙ ap (λ (ws : List Window). option_map (λ (x : Slot). window_at ws p) (slot_of xs p)) (is_machine.yard.placed ∙ windows_same slots)
     where
-      same_there : (o : Option Program) (k : Option Slot) (w : Window) → option_map (λ (x : Program). x.p) o ≡ option_map (λ (x : Slot). x.p) k → option_map (λ (x : Program). w) o ≡ option_map (λ (x : Slot). w) k
+      same_there : (o : Option Program) (k : Option Slot) (w : Window) → option_map (λ (x : Program). x.p) o ≡ option_map (λ (x : Slot). x.p) k
+          → option_map (λ (x : Program). w) o ≡ option_map (λ (x : Slot). w) k
       same_there None None w same = refl
       same_there None (Some y) w same = cc
       same_there (Some x) None w same = cc

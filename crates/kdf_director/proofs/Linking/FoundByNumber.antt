@@ -1,7 +1,8 @@
 -- Lists that are looked through for a number.
 use Rattle.std.specs.Prelude.{find}
 use Rattle.std.specs.Option.{option_map}
-use Rattle.std.proofs.Common.{◌≡◌, ◌≢◌, ℕ, zero, suc, ◌<◌, Bool, true, false, List, [], ◌∷◌, length, get_or, map, Some, None, is_some, cond, refl, sym, ap, ◌∙◌, ⊎_elim, arith}
+use Rattle.std.proofs.Common.{◌≡◌, ◌≢◌, ℕ, zero, suc, ◌<◌, Bool, true, false, List, [], ◌∷◌, length, get_or, map, Some, None, is_some, cond, refl, sym, ap, ◌∙◌}
+use Rattle.std.proofs.Common.{⊎_elim, arith}
 use Rattle.std.proofs.lemmas.Bool.{cases_eq, eq-eqb, ne_eqb}
 use Rattle.kdf_transfer.specs.Slots.{Slot}
 use Rattle.kdf_processor.specs.State.{State}
@@ -13,7 +14,8 @@ pub find_map : {X Y : Type 0} (f : X → Y) (t : Y → Bool) (xs : List X) → f
 find_map f t [] = refl
 find_map f t (x ∷ xs) = at_test (t (f x)) (find_map f t xs)
   where
-    at_test : (b : Bool) → find t (map f xs) ≡ option_map f (find (λ y. t (f y)) xs) → cond b (Some (f x)) (find t (map f xs)) ≡ option_map f (cond b (Some x) (find (λ y. t (f y)) xs))
+    at_test : (b : Bool) → find t (map f xs) ≡ option_map f (find (λ y. t (f y)) xs)
+        → cond b (Some (f x)) (find t (map f xs)) ≡ option_map f (cond b (Some x) (find (λ y. t (f y)) xs))
     at_test true rest = refl
     at_test false rest = rest
 
@@ -22,7 +24,8 @@ pub find_at : {X : Type 0} (t : X → Bool) (xs : List X) (x d : X) → find t x
 find_at t [] x d is = cc
 find_at t (y ∷ xs) x d is = at_test (t y) refl is (find_at t xs x d)
   where
-    at_test : (b : Bool) → t y ≡ b → cond b (Some y) (find t xs) ≡ Some x → (find t xs ≡ Some x → (i : ℕ) × (i < length xs) × (get_or xs i d ≡ x) × (t x ≡ true))
+    at_test : (b : Bool) → t y ≡ b → cond b (Some y) (find t xs) ≡ Some x
+        → (find t xs ≡ Some x → (i : ℕ) × (i < length xs) × (get_or xs i d ≡ x) × (t x ≡ true))
         → (i : ℕ) × (i < length (y ∷ xs)) × (get_or (y ∷ xs) i d ≡ x) × (t x ≡ true)
     at_test true passes found later =
         let same : y ≡ x = cc in
@@ -47,7 +50,8 @@ find_none t (y ∷ xs) d is (suc i) lt = find_none t xs d (at_test (t y) is) i (
 
 -- ---- the state of the program in a slot
 
-pub state_in_at : (slots : List Slot) (states : List State) (p i : ℕ) (x : Slot) (d : State) → i < length slots → i < length states → (get_or slots i x).p ≡ p → ((j : ℕ) → j < i → (get_or slots j x).p ≢ p) → state_in slots states p ≡ Some (get_or states i d)
+pub state_in_at : (slots : List Slot) (states : List State) (p i : ℕ) (x : Slot) (d : State) → i < length slots → i < length states → (get_or slots i x).p ≡ p
+    → ((j : ℕ) → j < i → (get_or slots j x).p ≢ p) → state_in slots states p ≡ Some (get_or states i d)
 state_in_at [] states p i x d lt lt' is first = absurd (omega arith)
 state_in_at (s ∷ slots) [] p i x d lt lt' is first = absurd (omega arith)
 state_in_at (s ∷ slots) (y ∷ states) p zero x d lt lt' is first = ap (λ b. cond b (Some y) (state_in slots states p)) (eq-eqb s.p p is)
@@ -55,7 +59,8 @@ state_in_at (s ∷ slots) (y ∷ states) p (suc i) x d lt lt' is first =
     ap (λ b. cond b (Some y) (state_in slots states p)) (ne_eqb s.p p (first 0 (omega arith)))
     ∙ state_in_at slots states p i x d (omega arith) (omega arith) is (λ j low. first (suc j) (omega arith))
 
-pub state_in_some : (slots : List Slot) (states : List State) (p : ℕ) (x : Slot) → is_some (state_in slots states p) ≡ true → (i : ℕ) × (i < length slots) × (i < length states) × ((get_or slots i x).p ≡ p)
+pub state_in_some : (slots : List Slot) (states : List State) (p : ℕ) (x : Slot) → is_some (state_in slots states p) ≡ true → (i : ℕ) × (i < length slots)
+    × (i < length states) × ((get_or slots i x).p ≡ p)
 state_in_some [] states p x is = cc
 state_in_some (s ∷ slots) [] p x is = cc
 state_in_some (s ∷ slots) (y ∷ states) p x is =

@@ -20,7 +20,8 @@ use Rattle.kdf_director.proofs.Linking.FoundByNumber.{find_map}
 use Rattle.kdf_director.proofs.Linking.OwnStates.{told_of}
 
 -- the registers of the program of a slot
-pub seated : (programs : List Program) (p : ℕ) → option_map (λ (x : Program). x.registers) (find (λ (x : Program). eqb x.p p) programs) ≡ option_map (λ (x : Seat). x.registers) (find (λ (x : Seat). eqb x.p p) (seats_in programs))
+pub seated : (programs : List Program) (p : ℕ) → option_map (λ (x : Program). x.registers) (find (λ (x : Program). eqb x.p p) programs) ≡ option_map
+    (λ (x : Seat). x.registers) (find (λ (x : Seat). eqb x.p p) (seats_in programs))
 seated programs p =
     sym (twice (λ (x : Seat). x.registers) seat_of (find (λ (x : Program). eqb x.p p) programs))
     ∙ ap (option_map (λ (x : Seat). x.registers)) (sym (find_map seat_of (λ (x : Seat). eqb x.p p) programs))
@@ -32,7 +33,8 @@ module _ (y : Standing) (J : Recorded) (room : ℕ) (ready : IsReady y J room) w
 
   pub stops_same : (halt : Halt) (r : Progress) → stops_in halt y r ≡ stops halt (shown_of y J room) r
   stops_same halt (progress.Ran p) =
-      ap (halts halt p) (told_of y.slots y.reaches y.seats y.shared J.entries room ready.agrees (λ (x : Seat). x.registers) (λ (x : State). x.registers) p (λ i lt. registers_are i))
+      ap (halts halt p) (told_of y.slots y.reaches y.seats y.shared J.entries room ready.agrees (λ (x : Seat). x.registers) (λ (x : State). x.registers) p
+      (λ i lt. registers_are i))
   stops_same halt (progress.Held p need) = refl
   stops_same halt progress.Idle = refl
   stops_same halt progress.AllEnded = refl

@@ -13,7 +13,8 @@ use Rattle.kdf_director.specs.Advance.{note_beside, note_told}
 use Rattle.kdf_director.specs.Fields.Settled.{holder_left, holder_over}
 
 -- the order of a program that goes on leaves which programs are over
-going-on : (p d : ℕ) (J : List Entry) (note : Note) → ((q : ℕ) → ends_by q (Obeys p note) ≡ false) → holder d (added J (Obeys p note)) ≡ unless_over J (taker_by d (taker d J) (Obeys p note))
+going-on : (p d : ℕ) (J : List Entry) (note : Note) → ((q : ℕ) → ends_by q (Obeys p note) ≡ false)
+    → holder d (added J (Obeys p note)) ≡ unless_over J (taker_by d (taker d J) (Obeys p note))
 going-on p d J note none = ap (unless_over (added J (Obeys p note))) (taker-added d J (Obeys p note)) ∙ same (taker_by d (taker d J) (Obeys p note))
   where
     same : (o : Option ℕ) → unless_over (added J (Obeys p note)) o ≡ unless_over J o
@@ -25,7 +26,8 @@ not_true true e = cc
 not_true false e = refl
 
 -- one that ends it takes from it what it had
-ends-it : (p d : ℕ) (J : List Entry) (note : Note) → not (over p J) ≡ true → ((q : ℕ) → ends_by q (Obeys p note) ≡ eqb p q) → taker_by d (taker d J) (Obeys p note) ≡ taker d J → holder d (added J (Obeys p note)) ≡ holder_over p (holder d J)
+ends-it : (p d : ℕ) (J : List Entry) (note : Note) → not (over p J) ≡ true → ((q : ℕ) → ends_by q (Obeys p note) ≡ eqb p q)
+    → taker_by d (taker d J) (Obeys p note) ≡ taker d J → holder d (added J (Obeys p note)) ≡ holder_over p (holder d J)
 ends-it p d J note live ends still =
     ap (unless_over (added J (Obeys p note))) (taker-added d J (Obeys p note) ∙ still)
     ∙ by_taker (taker d J)
@@ -53,7 +55,8 @@ IsGoing (ending.Held need) = ⊥
 IsGoing ended = Unit {0}
 
 -- a device of the pool after the turn of a program that wasn't held
-pub holder_then : (p k d : ℕ) (J : List Entry) (ended : Ending) (beside : Noted) → IsGoing ended → not (over p J) ≡ true → holder d (added J (Obeys p (note_told k ended beside))) ≡ holder_left p ended beside d (holder d J)
+pub holder_then : (p k d : ℕ) (J : List Entry) (ended : Ending) (beside : Noted) → IsGoing ended → not (over p J) ≡ true
+    → holder d (added J (Obeys p (note_told k ended beside))) ≡ holder_left p ended beside d (holder d J)
 holder_then p k d J (ending.Fails kind) beside going live = ends-it p d J (note_told k (ending.Fails kind) beside) live (λ q. refl) refl
 holder_then p k d J ending.Ends beside going live = ends-it p d J (note_told k ending.Ends beside) live (λ q. refl) refl
 holder_then p k d J (ending.Held need) beside going live = absurd going

@@ -2,7 +2,8 @@
 -- devices it has transfers, what holds it up, and what it is answered.
 use Rattle.std.specs.Prelude.{find, map, unwrap_or}
 use Rattle.std.specs.List.{filter, range_with_len}
-use Rattle.std.proofs.Common.{◌≡◌, ◌≢◌, ℕ, zero, suc, ◌+◌, ◌*◌, ◌/◌, ◌<◌, ◌≤◌, Bool, true, false, ◌||◌, ◌&&◌, List, [], ◌∷◌, length, get_or, Option, Some, None, is_some, is_none, cond, refl, sym, ap, ◌∙◌, subst, ⊎_elim, arith, not}
+use Rattle.std.proofs.Common.{◌≡◌, ◌≢◌, ℕ, zero, suc, ◌+◌, ◌*◌, ◌/◌, ◌<◌, ◌≤◌, Bool, true, false, ◌||◌, ◌&&◌, List, [], ◌∷◌, length, get_or, Option, Some, None}
+use Rattle.std.proofs.Common.{is_some, is_none, cond, refl, sym, ap, ◌∙◌, subst, ⊎_elim, arith, not}
 use Rattle.std.proofs.lemmas.Bool.{cases_Bool, cases_eq, cases_lt, or_right, and_parts, and_from, eq-eqb, ne_eqb, le-leb, lt-ltb, leb-true, ltb-true}
 use Rattle.std.proofs.Math.Path.{fun_ext}
 use Rattle.std.proofs.lemmas.List.{get_or_past}
@@ -90,7 +91,8 @@ linked_of q d (Some h) None link = ne_eqb h.p q.p link
 linked_of q d (Some h) (Some f) link = eq-eqb h.p q.p link.owner
 
 -- devices with transfers, one after another
-own_from_is : (p : ℕ) (test : ℕ → Bool) (d : ℕ) (spots : List Spot) → ((k : ℕ) → k < length spots → is_of p (spot_at spots k).flight ≡ test (d + k)) → own_from p d spots ≡ filter test (range_with_len d (length spots))
+own_from_is : (p : ℕ) (test : ℕ → Bool) (d : ℕ) (spots : List Spot) → ((k : ℕ) → k < length spots → is_of p (spot_at spots k).flight ≡ test (d + k))
+    → own_from p d spots ≡ filter test (range_with_len d (length spots))
 own_from_is p test d [] same = refl
 own_from_is p test d (x ∷ spots) same =
     let first : is_of p x.flight ≡ test d = same 0 (omega arith) ∙ ap test (let e : d + 0 ≡ d = omega arith in e) in
@@ -99,15 +101,20 @@ own_from_is p test d (x ∷ spots) same =
     (own_from_is p test (d + 1) spots (λ k lt. same (suc k) (omega arith) ∙ ap test (let e : d + suc k ≡ d + 1 + k = omega arith in e)))
 
 -- what an order that asks is told decides what it does, and nothing else is asked
-pub done_alike : (a b : Question → ℕ) (size : ℕ) (e : Effect) (s : State) → IsInside size e → ((first last : ℕ) → AreNear size (map Group (groups_of first last)) → a (IsOut first last) ≡ b (IsOut first last)) → ((d : ℕ) → a (IsBusy d) ≡ b (IsBusy d)) → ((kind : Kind) → a (FreeOf kind) ≡ b (FreeOf kind)) → ((word : ℕ) → a (OfService word) ≡ b (OfService word)) → a Time ≡ b Time → done_by a e s ≡ done_by b e s
+pub done_alike : (a b : Question → ℕ) (size : ℕ) (e : Effect) (s : State) → IsInside size e
+    → ((first last : ℕ) → AreNear size (map Group (groups_of first last)) → a (IsOut first last) ≡ b (IsOut first last))
+    → ((d : ℕ) → a (IsBusy d) ≡ b (IsBusy d)) → ((kind : Kind) → a (FreeOf kind) ≡ b (FreeOf kind)) → ((word : ℕ) → a (OfService word) ≡ b (OfService word))
+    → a Time ≡ b Time → done_by a e s ≡ done_by b e s
 done_alike a b size (Asking (IsBusy d) after) s is out busy free served time = ap (λ n. done_by (λ _. n) (Asking (IsBusy d) after) s) (busy d)
-done_alike a b size (Asking (IsOut first last) after) s is out busy free served time = ap (λ n. done_by (λ _. n) (Asking (IsOut first last) after) s) (out first last (near_area size first last is))
+done_alike a b size (Asking (IsOut first last) after) s is out busy free served time = ap (λ n. done_by (λ _. n) (Asking (IsOut first last) after) s)
+    (out first last (near_area size first last is))
 done_alike a b size (Asking Time after) s is out busy free served time = ap (λ n. done_by (λ _. n) (Asking Time after) s) time
 done_alike a b size (Asking (FreeOf kind) after) s is out busy free served time = ap (λ n. done_by (λ _. n) (Asking (FreeOf kind) after) s) (free kind)
 done_alike a b size (Asking (OfService word) after) s is out busy free served time = ap (λ n. done_by (λ _. n) (Asking (OfService word) after) s) (served word)
 done_alike a b size e s is out busy free served time = refl
 
-module _ (slots : List Slot) (J : List Entry) (reaches : List Reach) (seats : List Seat) (s : Shared) (run : IsRunning reaches seats s) (old : AreFollowing slots J reaches seats s) (i : ℕ) (lt : i < length seats) (course : IsOnCourse slots J (seat_at seats i).p) where
+module _ (slots : List Slot) (J : List Entry) (reaches : List Reach) (seats : List Seat) (s : Shared) (run : IsRunning reaches seats s)
+    (old : AreFollowing slots J reaches seats s) (i : ℕ) (lt : i < length seats) (course : IsOnCourse slots J (seat_at seats i).p) where
   abbrev q : Part
   q = part_at reaches seats i
 
@@ -183,7 +190,8 @@ module _ (slots : List Slot) (J : List Entry) (reaches : List Reach) (seats : Li
           let in_low : lease.0.first ≤ q.base / 32 + g = omega arith in
           let in_high : q.base / 32 + g < lease.0.first + length lease.0.groups = omega arith in
           ap is_none (run.sound.out d (q.base / 32 + g)
-          (ap (λ o. has_group o (q.base / 32 + g)) (ap lease_held flies ∙ lease.1) ∙ and_from _ _ (le-leb lease.0.first (q.base / 32 + g) in_low) (lt-ltb (q.base / 32 + g) (lease.0.first + length lease.0.groups) in_high)))
+          (ap (λ o. has_group o (q.base / 32 + g)) (ap lease_held flies ∙ lease.1)
+          ∙ and_from _ _ (le-leb lease.0.first (q.base / 32 + g) in_low) (lt-ltb (q.base / 32 + g) (lease.0.first + length lease.0.groups) in_high)))
 
   -- and a group of its window that is out is touched by one of them
   out_touched : (g : ℕ) → 32 * g < q.size → is_out s.cells (q.base / 32 + g) ≡ true → touched_below device_count fs g ≡ true
@@ -194,7 +202,8 @@ module _ (slots : List Slot) (J : List Entry) (reaches : List Reach) (seats : Li
       let lease = run.sound.held (q.base / 32 + g) inside (none_here (group_at s.cells (q.base / 32 + g)) out) in
       by_flight lease.0 (spot_at s.spots lease.0).flight refl lease.1
     where
-      by_flight : (d : ℕ) (o : Option Held) → (spot_at s.spots d).flight ≡ o → has_group (leases_of s.spots d) (q.base / 32 + g) ≡ true → touched_below device_count fs g ≡ true
+      by_flight : (d : ℕ) (o : Option Held) → (spot_at s.spots d).flight ≡ o → has_group (leases_of s.spots d) (q.base / 32 + g) ≡ true
+          → touched_below device_count fs g ≡ true
       by_flight d None idle has = cc (sym (ap (λ o. has_group (lease_held o) (q.base / 32 + g)) idle) ∙ has)
       by_flight d (Some h) flies has =
           let same = its d h flies g near has in
@@ -216,7 +225,8 @@ module _ (slots : List Slot) (J : List Entry) (reaches : List Reach) (seats : Li
           let high : g ≤ f.0.last / 32 = omega arith in
           let small : d < device_count = there d h flies in
           touched_by device_count fs g d small
-          (ap (λ o. touches o g) f.1 ∙ and_from _ _ (sym (ap has_area f.2.order) ∙ area) (and_from _ _ (le-leb (f.0.first / 32) g low) (le-leb g (f.0.last / 32) high)))
+          (ap (λ o. touches o g) f.1 ∙ and_from _ _ (sym (ap has_area f.2.order) ∙ area)
+          (and_from _ _ (le-leb (f.0.first / 32) g low) (le-leb g (f.0.last / 32) high)))
         where
           lease_of : (o : Option Lent) → has_group o (q.base / 32 + g) ≡ true → (k : Lent) × (o ≡ Some k)
           lease_of None is = cc
@@ -244,7 +254,8 @@ module _ (slots : List Slot) (J : List Entry) (reaches : List Reach) (seats : Li
   pub mine_same : own_from q.p 0 s.spots ≡ mine_after J q.p
   unfolding mine_after
   mine_same =
-      own_from_is q.p (λ d. told.is_of q.p (pending d J)) 0 s.spots (λ k lt'. linked_of q k (spot_at s.spots k).flight (fs k) (fol.linked k) ∙ course.mine k ∙ ap (λ d. told.is_of q.p (pending d J)) (let e : k ≡ 0 + k = omega arith in e))
+      own_from_is q.p (λ d. told.is_of q.p (pending d J)) 0 s.spots (λ k lt'. linked_of q k (spot_at s.spots k).flight (fs k) (fol.linked k) ∙ course.mine k
+      ∙ ap (λ d. told.is_of q.p (pending d J)) (let e : k ≡ 0 + k = omega arith in e))
       ∙ ap (λ n. filter (λ d. told.is_of q.p (pending d J)) (range_with_len 0 n)) run.sound.spots
 
   -- its needs don't hang on what it was answered
@@ -260,10 +271,13 @@ module _ (slots : List Slot) (J : List Entry) (reaches : List Reach) (seats : Li
   size_is n = refl
 
   -- what it is answered
-  pub busy_same : (heard d : ℕ) → answers_at reaches seats (moment (clock J) heard) s i (IsBusy d) ≡ known (is_pending_after slots J q.p) (clock J) (free_after slots J q.p) heard (IsBusy d)
+  pub busy_same : (heard d : ℕ) → answers_at reaches seats (moment (clock J) heard) s i (IsBusy d) ≡ known (is_pending_after slots J q.p) (clock J)
+      (free_after slots J q.p) heard (IsBusy d)
   busy_same heard d = ap (λ b. cond b 1 0) (old.busy d)
 
-  pub out_same : (heard first last : ℕ) → AreNear q.size (map Group (groups_of first last)) → answers_at reaches seats (moment (clock J) heard) s i (IsOut first last) ≡ known (is_pending_after slots J q.p) (clock J) (free_after slots J q.p) heard (IsOut first last)
+  pub out_same : (heard first last : ℕ) → AreNear q.size (map Group (groups_of first last))
+      → answers_at reaches seats (moment (clock J) heard) s i (IsOut first last) ≡ known (is_pending_after slots J q.p) (clock J)
+      (free_after slots J q.p) heard (IsOut first last)
   out_same heard first last near =
       ap (λ b. cond b 1 0)
       (any_near q.size (λ g. is_out s.cells (q.base / 32 + g)) (touched_below device_count fs) group_same (groups_of first last) near)
@@ -271,7 +285,8 @@ module _ (slots : List Slot) (J : List Entry) (reaches : List Reach) (seats : Li
   -- ---- where the pool lends as the journal tells
   module _ (lent : AreLent J reaches seats) where
     -- a device of the pool is free in the machine where it is by the journal
-    free_at : (kind : Kind) (d : ℕ) (o : Option Kind) → get_or q.pool d None ≡ o → is_free_after slots J q.p kind d ≡ is_free_in q.pool (is_lent_by seats) kind d
+    free_at : (kind : Kind) (d : ℕ) (o : Option Kind) → get_or q.pool d None ≡ o
+        → is_free_after slots J q.p kind d ≡ is_free_in q.pool (is_lent_by seats) kind d
     free_at kind d None is =
         ap (λ ks. is_kind kind (get_or ks d None) && not (is_some (holder d J))) same_pool
         ∙ ap (λ k. is_kind kind k && not (is_some (holder d J))) is
@@ -301,8 +316,10 @@ module _ (slots : List Slot) (J : List Entry) (reaches : List Reach) (seats : Li
     hold_same =
         find_near q.size (is_pending (view q (setting (is_lent_by seats) (moment 0 0)) s)) (is_pending_after slots J q.p) (pending_same (moment 0 0))
         (needs (own_state reaches seats s 0 i) (own_from q.p 0 s.spots))
-        (subst (λ n. AreNear n (needs (own_state reaches seats s 0 i) (own_from q.p 0 s.spots))) (size_is 0) (needs_near (own_state reaches seats s 0 i) (own_from q.p 0 s.spots)))
+        (subst (λ n. AreNear n (needs (own_state reaches seats s 0 i) (own_from q.p 0 s.spots))) (size_is 0)
+        (needs_near (own_state reaches seats s 0 i) (own_from q.p 0 s.spots)))
         ∙ ap (find (is_pending_after slots J q.p)) (needs_are 0 (own_from q.p 0 s.spots) ∙ ap (needs (seen_of slots J q.p)) mine_same)
 
-    pub free_same : (heard : ℕ) (kind : Kind) → answers_at reaches seats (moment (clock J) heard) s i (FreeOf kind) ≡ known (is_pending_after slots J q.p) (clock J) (free_after slots J q.p) heard (FreeOf kind)
+    pub free_same : (heard : ℕ) (kind : Kind) → answers_at reaches seats (moment (clock J) heard) s i (FreeOf kind) ≡ known (is_pending_after slots J q.p)
+        (clock J) (free_after slots J q.p) heard (FreeOf kind)
     free_same heard kind = ap (λ (o : Option ℕ). unwrap_or o 0) (sym (free_is kind))

@@ -1,7 +1,8 @@
 -- The windows, the store and the transfers of a machine are those of its programs.
 use Rattle.std.specs.Prelude.{IsSomeAnd}
 use Rattle.std.specs.Option.{option_map}
-use Rattle.std.proofs.Common.{◌≡◌, ℕ, ◌+◌, ◌-◌, ◌*◌, ◌/◌, ◌<◌, ◌≤◌, Bool, true, false, eqb, List, [], ◌∷◌, length, get_or, map, Option, Some, None, is_some, cond, refl, sym, ap, ap₂, ◌∙◌, subst, ⊎_elim, arith}
+use Rattle.std.proofs.Common.{◌≡◌, ℕ, ◌+◌, ◌-◌, ◌*◌, ◌/◌, ◌<◌, ◌≤◌, Bool, true, false, eqb, List, [], ◌∷◌, length, get_or, map, Option, Some, None, is_some}
+use Rattle.std.proofs.Common.{cond, refl, sym, ap, ap₂, ◌∙◌, subst, ⊎_elim, arith}
 use Rattle.std.proofs.lemmas.Bool.{and_parts, and_from, cases_lt, eqb-true, le-leb, lt-ltb, leb-true}
 use Rattle.std.proofs.lemmas.List.{get_or_past, get_or-map, length-map}
 use Rattle.kdf_journal.specs.declared.entry.Entry.{Entry}
@@ -55,7 +56,8 @@ size_same (l ∷ loads) p = ap (cond (eqb l.p p) l.size) (size_same loads p)
 pub windows_same : (loads : List Loaded) → windows_from 1024 (sizes_of (map loaded loads)) ≡ windows_in (map slot_loaded loads)
 windows_same loads =
     ap₂ (λ a b. windows_from 1024 (a ∷ b ∷ size_at (map loaded loads) 2 ∷ size_at (map loaded loads) 3 ∷ [])) (size_same loads 0) (size_same loads 1)
-    ∙ ap₂ (λ c d. windows_from 1024 (size_in (map slot_loaded loads) 0 ∷ size_in (map slot_loaded loads) 1 ∷ c ∷ d ∷ [])) (size_same loads 2) (size_same loads 3)
+    ∙ ap₂ (λ c d. windows_from 1024 (size_in (map slot_loaded loads) 0 ∷ size_in (map slot_loaded loads) 1 ∷ c ∷ d ∷ [])) (size_same loads 2)
+    (size_same loads 3)
 
 abbrev reached : Reach → Window
 reached r = record { base = r.base; size = r.size }
@@ -79,18 +81,21 @@ begun_by n d x (Claiming device after) f is = cc
 begun_by n d x (Returning pooled device after) f is = cc
 begun_by n d x (Spooling stream first last after) f is = cc
 
-owner_of : (slots : List Slot) (J : List Entry) (p d : ℕ) (begun : ℕ × ℕ) (f : Flight) → flight_of slots J p d (Some begun) ≡ Some f → (begun.0 ≡ p) × (f.before ≡ own_after slots J p (begun.1 - 1))
+owner_of : (slots : List Slot) (J : List Entry) (p d : ℕ) (begun : ℕ × ℕ) (f : Flight) → flight_of slots J p d (Some begun) ≡ Some f
+    → (begun.0 ≡ p) × (f.before ≡ own_after slots J p (begun.1 - 1))
 owner_of slots J p d begun f is = by_owner (eqb begun.0 p) refl is
   where
     by_owner : (b : Bool) → eqb begun.0 p ≡ b
-        → cond b (flight_by (moved d J) d (own_after slots J p (begun.1 - 1)) (next_effect (own_after slots J p (begun.1 - 1)))) None ≡ Some f → (begun.0 ≡ p) × (f.before ≡ own_after slots J p (begun.1 - 1))
+        → cond b (flight_by (moved d J) d (own_after slots J p (begun.1 - 1)) (next_effect (own_after slots J p (begun.1 - 1)))) None ≡ Some f
+        → (begun.0 ≡ p) × (f.before ≡ own_after slots J p (begun.1 - 1))
     by_owner true same is = (
       eqb-true begun.0 p same,
       begun_by (moved d J) d (own_after slots J p (begun.1 - 1)) (next_effect (own_after slots J p (begun.1 - 1))) f is,
     )
     by_owner false other is = cc
 
-told_is : (slots : List Slot) (J : List Entry) (p d : ℕ) (begun : ℕ × ℕ) (f : Flight) → pending d J ≡ Some begun → flights_of slots J p d ≡ Some f → flight_of slots J p d (Some begun) ≡ Some f
+told_is : (slots : List Slot) (J : List Entry) (p d : ℕ) (begun : ℕ × ℕ) (f : Flight) → pending d J ≡ Some begun → flights_of slots J p d ≡ Some f
+    → flight_of slots J p d (Some begun) ≡ Some f
 unfolding flights_of
 told_is slots J p d begun f is told = ap (flight_of slots J p d) (sym is) ∙ told
 
@@ -102,7 +107,8 @@ kind_there k (Some x) is = refl
 some_same : {x y : State} → Some x ≡ Some y → x ≡ y
 some_same e = cc
 
-module _ (windows : List Window) (loads : List Loaded) (seats : List Seat) (s : Shared) (J : List Entry) (room : ℕ) (many : length loads ≡ length seats) (a : Agrees (map slot_loaded loads) (reaches_in windows loads) seats s J) (placed : windows ≡ windows_from 1024 (sizes_of (map loaded loads))) where
+module _ (windows : List Window) (loads : List Loaded) (seats : List Seat) (s : Shared) (J : List Entry) (room : ℕ) (many : length loads ≡ length seats)
+    (a : Agrees (map slot_loaded loads) (reaches_in windows loads) seats s J) (placed : windows ≡ windows_from 1024 (sizes_of (map loaded loads))) where
   abbrev slots : List Slot
   slots = map slot_loaded loads
 
@@ -177,7 +183,8 @@ module _ (windows : List Window) (loads : List Loaded) (seats : List Seat) (s : 
     pub stored : (x : ℕ) → x < own.stock.claims.size → IsStored m s.cells p x own
     stored x lt =
         record {
-          out = ap (is_out s.cells) group ∙ group_same slots J reaches seats s a.running a.following at.0 at.1 (legal-course slots J a.are a.legal (seat_at seats at.0).p) (x / 32) near
+          out = ap (is_out s.cells) group ∙ group_same slots J reaches seats s a.running a.following at.0 at.1
+              (legal-course slots J a.are a.legal (seat_at seats at.0).p) (x / 32) near
               ∙ ap (λ k. touched_below device_count (flights_of slots J k) (x / 32)) at.2;
           word = λ here.
               sym (here_word s.cells (leases_of s.spots) (place_of slots p x) here)
@@ -207,7 +214,8 @@ module _ (windows : List Window) (loads : List Loaded) (seats : List Seat) (s : 
         (cases_lt d (length s.spots))
 
     -- the lease has the words of the groups that the area touches
-    word_in_lease : (h : Held) → (spot_at s.spots d).flight ≡ Some h → (i : ℕ) → i < length seats → IsFlightOf (q i) d (spot_at s.spots d) h → (f : Flight) → IsLink (q i) d h f → (x : ℕ) → x < (reach_at reaches i).size → touches (Some f) (x / 32) ≡ true
+    word_in_lease : (h : Held) → (spot_at s.spots d).flight ≡ Some h → (i : ℕ) → i < length seats → IsFlightOf (q i) d (spot_at s.spots d) h → (f : Flight)
+        → IsLink (q i) d h f → (x : ℕ) → x < (reach_at reaches i).size → touches (Some f) (x / 32) ≡ true
         → lent_at h.motion.lease ((reach_at reaches i).base + x) ≡ word_at (own_at i) x
     word_in_lease h flies i lt flight f link x inside is =
         let parts = and_parts _ _ is in
@@ -226,9 +234,12 @@ module _ (windows : List Window) (loads : List Loaded) (seats : List Seat) (s : 
         let in_high : ((reach_at reaches i).base + x) / 32 < lease.0.first + length lease.0.groups = omega arith in
         let held : leases_of s.spots d ≡ h.motion.lease = ap lease_held flies in
         let has : has_group (leases_of s.spots d) (((reach_at reaches i).base + x) / 32) ≡ true =
-        ap (λ o. has_group o (((reach_at reaches i).base + x) / 32)) (held ∙ lease.1) ∙ and_from _ _ (le-leb lease.0.first (((reach_at reaches i).base + x) / 32) in_low) (lt-ltb (((reach_at reaches i).base + x) / 32) (lease.0.first + length lease.0.groups) in_high) in
+        ap (λ o. has_group o (((reach_at reaches i).base + x) / 32)) (held ∙ lease.1)
+        ∙ and_from _ _ (le-leb lease.0.first (((reach_at reaches i).base + x) / 32) in_low)
+        (lt-ltb (((reach_at reaches i).base + x) / 32) (lease.0.first + length lease.0.groups) in_high) in
         sym (ap (λ o. lent_at o ((reach_at reaches i).base + x)) held)
-        ∙ sym (word_out_one device_count d (leases_of s.spots) ((reach_at reaches i).base + x) (small h flies) has (λ e ne. a.running.sound.alone d e (((reach_at reaches i).base + x) / 32) ne has))
+        ∙ sym (word_out_one device_count d (leases_of s.spots) ((reach_at reaches i).base + x) (small h flies) has
+        (λ e ne. a.running.sound.alone d e (((reach_at reaches i).base + x) / 32) ne has))
         ∙ sym (ap (word_where (leases_of s.spots) ((reach_at reaches i).base + x)) (a.running.sound.out d (((reach_at reaches i).base + x) / 32) has))
         ∙ word_shown reaches seats s (asked_at seats J i) i x inside
 
@@ -238,7 +249,9 @@ module _ (windows : List Window) (loads : List Loaded) (seats : List Seat) (s : 
         ap (λ (x : State). is_claimed x.stock.claims d) (a.following.each i lt).is_seen
         ∙ kind_there (kind_of f.order) _ (subst (IfFlight (own slots J (q i).p) d) told ((legal-course slots J a.are a.legal (q i).p).flying.each d)).claimed
 
-    flight_is : (h : Held) → (spot_at s.spots d).flight ≡ Some h → (p i : ℕ) → i < length seats → (seat_at seats i).p ≡ p → IsFlightOf (q i) d (spot_at s.spots d) h → (f : Flight) → IsLink (q i) d h f → flights_of slots J (q i).p d ≡ Some f → IsFlight m p d (own_at i) h.motion f
+    flight_is : (h : Held) → (spot_at s.spots d).flight ≡ Some h → (p i : ℕ) → i < length seats → (seat_at seats i).p ≡ p
+        → IsFlightOf (q i) d (spot_at s.spots d) h → (f : Flight) → IsLink (q i) d h f → flights_of slots J (q i).p d ≡ Some f
+        → IsFlight m p d (own_at i) h.motion f
     flight_is h flies p i lt same flight f link told =
         record {
           claimed = claimed_is i lt f told;
@@ -264,7 +277,8 @@ module _ (windows : List Window) (loads : List Loaded) (seats : List Seat) (s : 
         let i = held.by in
         let lt = held.there in
         let fol = a.following.each i lt in
-        let f = linked_own (q i) d h (flights_of slots J (q i).p d) held.flight.owner (subst (λ o. Linked (q i) d o (flights_of slots J (q i).p d)) flies (fol.linked d)) in
+        let f = linked_own (q i) d h (flights_of slots J (q i).p d) held.flight.owner
+        (subst (λ o. Linked (q i) d o (flights_of slots J (q i).p d)) flies (fol.linked d)) in
         let order = owner_of slots J (q i).p d begun f.0 (told_is slots J (q i).p d begun f.0 is f.1) in
         record {
           flight = f.0;
@@ -279,7 +293,8 @@ module _ (windows : List Window) (loads : List Loaded) (seats : List Seat) (s : 
     pub lent : (t : Option Motion) → t ≡ option_map (λ (h : Held). h.motion) (spot_at s.spots d).flight → IsLent m d (pending d J) t
     lent t is = by_both (spot_at s.spots d).flight refl (pending d J) refl t is
       where
-        by_both : (o : Option Held) → (spot_at s.spots d).flight ≡ o → (k : Option (ℕ × ℕ)) → pending d J ≡ k → (t : Option Motion) → t ≡ option_map (λ (h : Held). h.motion) o → IsLent m d k t
+        by_both : (o : Option Held) → (spot_at s.spots d).flight ≡ o → (k : Option (ℕ × ℕ)) → pending d J ≡ k → (t : Option Motion)
+            → t ≡ option_map (λ (h : Held). h.motion) o → IsLent m d k t
         by_both None idle None none t is = is
         by_both None idle (Some begun) some t is = cc (sym (ap is_some idle) ∙ a.following.busy d ∙ ap is_some some)
         by_both (Some h) flies None none t is = cc (sym (ap is_some flies) ∙ a.following.busy d ∙ ap is_some none)

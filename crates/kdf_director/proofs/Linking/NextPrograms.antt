@@ -2,7 +2,8 @@
 use Rattle.std.specs.Prelude.{find}
 use Rattle.std.specs.List.{list_any}
 use Rattle.std.specs.Option.{option_map}
-use Rattle.std.proofs.Common.{◌≡◌, ◌≢◌, ℕ, zero, suc, ◌<◌, ◌≤◌, Bool, true, false, eqb, ◌&&◌, not, List, [], ◌∷◌, length, get_or, map, Option, Some, None, is_some, cond, refl, sym, ap, ap₂, ◌∙◌, subst, ⊎_elim, arith}
+use Rattle.std.proofs.Common.{◌≡◌, ◌≢◌, ℕ, zero, suc, ◌<◌, ◌≤◌, Bool, true, false, eqb, ◌&&◌, not, List, [], ◌∷◌, length, get_or, map, Option, Some, None}
+use Rattle.std.proofs.Common.{is_some, cond, refl, sym, ap, ap₂, ◌∙◌, subst, ⊎_elim, arith}
 use Rattle.std.proofs.lemmas.Bool.{and_parts, cases_Bool, cases_eq, eq-eqb, eqb-true, false≢true, ne_eqb}
 use Rattle.std.proofs.lemmas.List.{get_or-map, length-map}
 use Rattle.kdf_journal.specs.declared.entry.Entry.{Entry}
@@ -173,11 +174,13 @@ module _ (slots : List Slot) (reaches : List Reach) (seats : List Seat) (s : Sha
       w = world_after slots J states
 
       -- what held it is pending by its fields where it is by the journal
-      stopped_by : (i : ℕ) → i < length seats → (o : Option Hold) → IsNearHold (reach_at reaches i).size (option_map need_of o) → is_stopped (reach_at reaches i) (is_lent_by seats) s (option_map need_of o) ≡ stands (dispatched slots w) (p i) o
+      stopped_by : (i : ℕ) → i < length seats → (o : Option Hold) → IsNearHold (reach_at reaches i).size (option_map need_of o)
+          → is_stopped (reach_at reaches i) (is_lent_by seats) s (option_map need_of o) ≡ stands (dispatched slots w) (p i) o
       stopped_by i lt None near = refl
       stopped_by i lt (Some (ByGroup g)) near = group_same slots J reaches seats s a.running a.following i lt (legal-course slots J a.are a.legal (p i)) g near
       stopped_by i lt (Some (ByDevice d)) near = a.following.busy d
-      stopped_by i lt (Some (ByPool kind)) near = pending_same slots J reaches seats s a.running a.following i lt (legal-course slots J a.are a.legal (p i)) a.lent (moment 0 0) (Pool kind) tt
+      stopped_by i lt (Some (ByPool kind)) near = pending_same slots J reaches seats s a.running a.following i lt (legal-course slots J a.are a.legal (p i))
+          a.lent (moment 0 0) (Pool kind) tt
 
       goes_same : (i : ℕ) → i < length seats → goes_at reaches seats holds s i ≡ can_go (dispatched slots w) J (p i)
       unfolding can_go
@@ -189,7 +192,8 @@ module _ (slots : List Slot) (reaches : List Reach) (seats : List Seat) (s : Sha
       only_programs : (k : ℕ) → can_go (dispatched slots w) J k ≡ true → is_some (slot_of slots k) ≡ true
       unfolding can_go course.lives
       only_programs k is =
-          (and_parts (is_some (slot_of slots k)) (not (over k J)) (and_parts (is_some (slot_of slots k) && not (over k J)) (not (stands (dispatched slots w) k (last_hold k J))) is).0).0
+          (and_parts (is_some (slot_of slots k)) (not (over k J))
+          (and_parts (is_some (slot_of slots k) && not (over k J)) (not (stands (dispatched slots w) k (last_hold k J))) is).0).0
 
       -- the program in a slot
       is_at : (k i : ℕ) → place_of seats k ≡ Some i → (i < length seats) × (p i ≡ k)
@@ -208,7 +212,8 @@ module _ (slots : List Slot) (reaches : List Reach) (seats : List Seat) (s : Sha
           let e = many in
           let lt = x.1 in
           let within : x.0 < length seats = omega arith in
-          absurd (false≢true (sym (none_found (λ j. eqb (p j) k) 0 (length seats) is x.0 (omega arith) (omega arith)) ∙ eq-eqb (p x.0) k (sym (p_at x.0 within) ∙ x.2))))
+          absurd (false≢true (sym (none_found (λ j. eqb (p j) k) 0 (length seats) is x.0 (omega arith) (omega arith))
+          ∙ eq-eqb (p x.0) k (sym (p_at x.0 within) ∙ x.2))))
           (λ (stays : can_go (dispatched slots w) J k ≡ false). stays)
           (cases_Bool (can_go (dispatched slots w) J k))
 
@@ -235,7 +240,9 @@ module _ (slots : List Slot) (reaches : List Reach) (seats : List Seat) (s : Sha
       or_some None other is = cc
       or_some (Some i) other is = refl
 
-      first_by : (k : ℕ) (ks : List ℕ) (b : Bool) → can_go (dispatched slots w) J k ≡ b → first_going reaches seats holds s ks ≡ placed (find (can_go (dispatched slots w) J) ks) → first_going reaches seats holds s (k ∷ ks) ≡ placed (cond b (Some k) (find (can_go (dispatched slots w) J) ks))
+      first_by : (k : ℕ) (ks : List ℕ) (b : Bool) → can_go (dispatched slots w) J k ≡ b
+          → first_going reaches seats holds s ks ≡ placed (find (can_go (dispatched slots w) J) ks)
+          → first_going reaches seats holds s (k ∷ ks) ≡ placed (cond b (Some k) (find (can_go (dispatched slots w) J) ks))
       first_by k ks true is rest =
           ap (λ o. or_else o (first_going reaches seats holds s ks)) (at_place k (place_of seats k) refl ∙ ap (λ b. cond b (place_of seats k) None) is)
           ∙ or_some (place_of seats k) (first_going reaches seats holds s ks) (has_place k (place_of seats k) refl is)
@@ -248,25 +255,29 @@ module _ (slots : List Slot) (reaches : List Reach) (seats : List Seat) (s : Sha
       first_placed (k ∷ ks) =
           first_by k ks (can_go (dispatched slots w) J k) refl (first_placed ks)
 
-      is_found : (ks : List ℕ) (i : ℕ) (o : Option ℕ) → find (can_go (dispatched slots w) J) ks ≡ o → placed o ≡ Some i → (i < length seats) × (o ≡ Some (p i)) × (can_go (dispatched slots w) J (p i) ≡ true)
+      is_found : (ks : List ℕ) (i : ℕ) (o : Option ℕ) → find (can_go (dispatched slots w) J) ks ≡ o → placed o ≡ Some i → (i < length seats) × (o ≡ Some (p i))
+          × (can_go (dispatched slots w) J (p i) ≡ true)
       is_found ks i None e is = cc
       is_found ks i (Some k) e is =
           let x = is_at k i is in
           (x.0, ap Some (sym x.1), ap (can_go (dispatched slots w) J) x.1 ∙ find_true (can_go (dispatched slots w) J) ks k e)
 
       -- the first that goes on is next
-      pub is_next : (i : ℕ) → first_going reaches seats holds s (priorities J) ≡ Some i → (i < length seats) × (is_live (seat_at seats i).registers.state ≡ true) × (next w slots J ≡ Some (p i))
+      pub is_next : (i : ℕ) → first_going reaches seats holds s (priorities J) ≡ Some i
+          → (i < length seats) × (is_live (seat_at seats i).registers.state ≡ true) × (next w slots J ≡ Some (p i))
       unfolding course.next
       is_next i is =
           let x = is_found (priorities J) i (find (can_go (dispatched slots w) J) (priorities J)) refl (sym (first_placed (priorities J)) ∙ is) in (
             x.0,
-            (and_parts (is_live (seat_at seats i).registers.state) (not (is_stopped (reach_at reaches i) (is_lent_by seats) s (hold_at holds i))) (goes_same i x.0 ∙ x.2)).0,
+            (and_parts (is_live (seat_at seats i).registers.state) (not (is_stopped (reach_at reaches i) (is_lent_by seats) s (hold_at holds i)))
+                (goes_same i x.0 ∙ x.2)).0,
             x.1,
           )
 
       none_placed : (ks : List ℕ) (o : Option ℕ) → find (can_go (dispatched slots w) J) ks ≡ o → placed o ≡ None → o ≡ None
       none_placed ks None e is = refl
-      none_placed ks (Some k) e is = absurd (false≢true (ap is_some (sym is) ∙ has_place k (place_of seats k) refl (find_true (can_go (dispatched slots w) J) ks k e)))
+      none_placed ks (Some k) e is = absurd (false≢true
+          (ap is_some (sym is) ∙ has_place k (place_of seats k) refl (find_true (can_go (dispatched slots w) J) ks k e)))
 
       -- and where none does, none is
       pub none_next : first_going reaches seats holds s (priorities J) ≡ None → next w slots J ≡ None

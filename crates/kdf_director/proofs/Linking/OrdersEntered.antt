@@ -1,7 +1,8 @@
 -- A machine whose program obeyed an order, or was held, stays as a machine is, and shows just that.
 use Rattle.std.specs.Prelude.{find, unwrap_or, IfSome}
 use Rattle.std.specs.List.{AllPairs}
-use Rattle.std.proofs.Common.{◌≡◌, ◌≢◌, ℕ, suc, ◌<◌, ◌^◌, true, false, List, [], ◌∷◌, length, get_or, map, Option, Some, None, is_some, cond, refl, sym, ap, ap₂, ◌∙◌, subst, ⊎_elim, arith}
+use Rattle.std.proofs.Common.{◌≡◌, ◌≢◌, ℕ, suc, ◌<◌, ◌^◌, true, false, List, [], ◌∷◌, length, get_or, map, Option, Some, None, is_some, cond, refl, sym, ap}
+use Rattle.std.proofs.Common.{ap₂, ◌∙◌, subst, ⊎_elim, arith}
 use Rattle.std.proofs.lemmas.Bool.{cases_eq, eq-eqb, ne_eqb}
 use Rattle.kdf_journal.specs.declared.entry.Entry.{Entry}
 use Rattle.kdf_journal.specs.declared.journal.TheConstants.{CALL_LIMIT}
@@ -57,7 +58,8 @@ use Rattle.kdf_director.proofs.Turns.HeardWords.{word_is}
 -- ---- states by slots
 
 -- the state in a slot
-pub state_there : (g : ℕ → State) (p : ℕ) (slots : List Slot) → is_some (slot_of slots p) ≡ true → state_in slots (map (λ (x : Slot). g x.p) slots) p ≡ Some (g p)
+pub state_there : (g : ℕ → State) (p : ℕ) (slots : List Slot) → is_some (slot_of slots p) ≡ true → state_in slots (map (λ (x : Slot). g x.p) slots) p
+    ≡ Some (g p)
 state_there g p [] is = cc
 state_there g p (x ∷ slots) is =
     ⊎_elim
@@ -69,14 +71,16 @@ state_there g p (x ∷ slots) is =
     (cases_eq x.p p)
 
 -- slots that aren't the program's
-states_apart : (g h : ℕ → State) (p : ℕ) → ((k : ℕ) → k ≢ p → h k ≡ g k) → (slots : List Slot) → ((j : ℕ) (d : Slot) → j < length slots → (get_or slots j d).p ≢ p) → map (λ (x : Slot). h x.p) slots ≡ map (λ (x : Slot). g x.p) slots
+states_apart : (g h : ℕ → State) (p : ℕ) → ((k : ℕ) → k ≢ p → h k ≡ g k) → (slots : List Slot)
+    → ((j : ℕ) (d : Slot) → j < length slots → (get_or slots j d).p ≢ p) → map (λ (x : Slot). h x.p) slots ≡ map (λ (x : Slot). g x.p) slots
 states_apart g h p same [] apart = refl
 states_apart g h p same (x ∷ slots) apart =
     ap₂ (λ (a : State) (b : List State). a ∷ b) (same x.p (apart 0 x (omega arith)))
     (states_apart g h p same slots (λ j d lt. apart (suc j) d (omega arith)))
 
 -- one program's state is another, and no other's
-states_row : (g h : ℕ → State) (p : ℕ) (answer : Question → ℕ) → h p ≡ begun_row (g p) answer → ((k : ℕ) → k ≢ p → h k ≡ g k) → (slots : List Slot) → AllPairs (λ (a b : Slot). a.p ≢ b.p) slots → map (λ (x : Slot). h x.p) slots ≡ states_after slots (map (λ (x : Slot). g x.p) slots) p answer
+states_row : (g h : ℕ → State) (p : ℕ) (answer : Question → ℕ) → h p ≡ begun_row (g p) answer → ((k : ℕ) → k ≢ p → h k ≡ g k) → (slots : List Slot)
+    → AllPairs (λ (a b : Slot). a.p ≢ b.p) slots → map (λ (x : Slot). h x.p) slots ≡ states_after slots (map (λ (x : Slot). g x.p) slots) p answer
 states_row g h p answer this others [] pairs = refl
 states_row g h p answer this others (x ∷ slots) pairs =
     ⊎_elim
@@ -139,7 +143,8 @@ done_going answer (Finishing after) s = tt
 done_going answer e s = tt
 
 -- ---- a machine
-module _ (slots : List Slot) (reaches : List Reach) (seats : List Seat) (s : Shared) (J : List Entry) (room : ℕ) (a : Agrees slots reaches seats s J) (i : ℕ) (lt : i < length seats) where
+module _ (slots : List Slot) (reaches : List Reach) (seats : List Seat) (s : Shared) (J : List Entry) (room : ℕ) (a : Agrees slots reaches seats s J) (i : ℕ)
+    (lt : i < length seats) where
   abbrev p : ℕ
   p = (seat_at seats i).p
 
@@ -164,7 +169,8 @@ module _ (slots : List Slot) (reaches : List Reach) (seats : List Seat) (s : Sha
       ∙ free
 
   -- what is heard where its next order, which nothing holds up, asks the service, by its own state and by the lone one
-  module _ (answers : ℕ → ℕ → Type 0) (heard : Option ℕ) (asked : HasAsked answers (word_over (seat_at seats i) (reach_at reaches i) s) heard) (live : is_live (seat_at seats i).registers.state ≡ true) (free : hold_of reaches seats s i ≡ None) where
+  module _ (answers : ℕ → ℕ → Type 0) (heard : Option ℕ) (asked : HasAsked answers (word_over (seat_at seats i) (reach_at reaches i) s) heard)
+      (live : is_live (seat_at seats i).registers.state ≡ true) (free : hold_of reaches seats s i ≡ None) where
     own_heard : (n : ℕ) → IsHeard answers (own_state reaches seats s n i) (unwrap_or heard 0)
     own_heard n =
         subst (λ o. IfSome o (λ word. (word < 2 ^ 48) × answers word (unwrap_or heard 0))) (word_is reaches seats s i a.running lt live free n)
@@ -210,7 +216,9 @@ module _ (slots : List Slot) (reaches : List Reach) (seats : List Seat) (s : Sha
     noted_own : note_of (state_at m p) (truth (world_of m) J p heard) ≡ noted
     noted_own = ap (λ (x : State). note_of x answer) (state_is there) ∙ same-note slots J p answer free_lone
 
-    module _ (seats' : List Seat) (s' : Shared) (ended : Ending) (beside : Noted) (turned : HasTurned reaches (moment (clock J) heard) i seats s seats' s' ended beside) (run : IsRunning reaches seats' s') (few : calls J < CALL_LIMIT) (numbers : map (λ (x : Seat). x.p) seats' ≡ map (λ (x : Seat). x.p) seats) where
+    module _ (seats' : List Seat) (s' : Shared) (ended : Ending) (beside : Noted)
+        (turned : HasTurned reaches (moment (clock J) heard) i seats s seats' s' ended beside) (run : IsRunning reaches seats' s') (few : calls J < CALL_LIMIT)
+        (numbers : map (λ (x : Seat). x.p) seats' ≡ map (λ (x : Seat). x.p) seats) where
       abbrev o : Outcome
       o = outcome_at reaches seats s (moment (clock J) heard) (asked_at seats J i) i
 
@@ -230,7 +238,9 @@ module _ (slots : List Slot) (reaches : List Reach) (seats : List Seat) (s : Sha
 
       -- it isn't held, and it was live
       going : IsGoing ended
-      going = subst IsGoing (sym (turned.step (asked_at seats J i) ∙ ap (λ (x : Outcome). x.step) (outcome_is slots J reaches seats s a.are a.legal a.running a.following a.lent i lt heard noted meets))) (done_going answer (next_effect (own_state reaches seats s (asked_at seats J i) i)) (own_state reaches seats s (asked_at seats J i) i))
+      going = subst IsGoing (sym (turned.step (asked_at seats J i)
+          ∙ ap (λ (x : Outcome). x.step) (outcome_is slots J reaches seats s a.are a.legal a.running a.following a.lent i lt heard noted meets)))
+          (done_going answer (next_effect (own_state reaches seats s (asked_at seats J i) i)) (own_state reaches seats s (asked_at seats J i) i))
 
       -- each device of the pool is whose the journal tells then
       lent_then : AreLent (added J (Obeys p noted)) reaches seats'
@@ -257,7 +267,13 @@ module _ (slots : List Slot) (reaches : List Reach) (seats : List Seat) (s : Sha
             few_moves = (let k = a.few_moves in omega (arith, moves-added J (Obeys p noted)));
           }
 
-      pub shows_obeyed : Obeyed heard m (record { slots = slots; states = states_in reaches seats' s' (added J (Obeys p noted)); journal = added J (Obeys p noted); room = room }) p
+      pub shows_obeyed : Obeyed heard m (record {
+        slots = slots;
+        states = states_in reaches seats' s' (added J (Obeys p noted));
+        journal =
+            added J (Obeys p noted);
+        room = room;
+      }) p
       shows_obeyed =
           record {
             was_next = turn;

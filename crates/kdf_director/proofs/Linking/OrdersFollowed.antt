@@ -1,6 +1,7 @@
 -- The programs go on following the journal through an order of one of them.
 use Rattle.std.specs.List.{range_with_len}
-use Rattle.std.proofs.Common.{◌≡◌, ◌≢◌, ℕ, ◌+◌, ◌-◌, ◌*◌, ◌/◌, ◌%◌, ◌<◌, ◌≤◌, Bool, true, false, List, [], length, length-append, get_or, set, map, take, drop, Option, Some, None, is_some, is_none, cond, refl, sym, ap, ap₂, ◌∙◌, subst, ⊎_elim, arith, length-take, length-drop}
+use Rattle.std.proofs.Common.{◌≡◌, ◌≢◌, ℕ, ◌+◌, ◌-◌, ◌*◌, ◌/◌, ◌%◌, ◌<◌, ◌≤◌, Bool, true, false, List, [], length, length-append, get_or, set, map, take, drop}
+use Rattle.std.proofs.Common.{Option, Some, None, is_some, is_none, cond, refl, sym, ap, ap₂, ◌∙◌, subst, ⊎_elim, arith, length-take, length-drop}
 use Rattle.std.proofs.lemmas.Bool.{cases_Bool, cases_eq, eq-eqb, ne_eqb}
 use Rattle.std.proofs.lemmas.List.{ext_get_or, get_or-map, get_or-set_same, get_or-set_other, get_or-take, get_or-drop}
 use Rattle.std.proofs.lemmas.List.FromFn.{length-map-range_with_len, get_or-map-range_with_len}
@@ -14,7 +15,8 @@ use Rattle.kdf_transfer.specs.AtOnce.{has_area, kind_of, order_words}
 use Rattle.kdf_transfer.specs.Devices.{Fixture}
 use Rattle.kdf_transfer.specs.InFlight.{area_words, lent_at}
 use Rattle.kdf_processor.specs.declared.registers.Registers.{Registers}
-use Rattle.kdf_processor.specs.Effect.{Question, Effect, Failing, Ending, Changing, Fetching, Keeping, Testing, Starting, Asking, Claiming, Returning, Spooling, FreeOf}
+use Rattle.kdf_processor.specs.Effect.{Question, Effect, Failing, Ending, Changing, Fetching, Keeping, Testing, Starting, Asking, Claiming, Returning, Spooling}
+use Rattle.kdf_processor.specs.Effect.{FreeOf}
 use Rattle.kdf_processor.specs.declared.step.Need.TheVariants.{Device}
 use Rattle.kdf_processor.specs.Lone.{is_live}
 use Rattle.kdf_processor.specs.Needs.{effect_needs, next_effect}
@@ -66,7 +68,8 @@ use Rattle.kdf_director.proofs.Turns.OneOrder as turn
 use Rattle.kdf_theory.proofs.Course.Worlds.{next_on}
 
 -- a word of the groups that a lease takes
-lent_here : (cells : Cells) (from n x : ℕ) → from + n ≤ length cells → from ≤ x / 32 → x / 32 < from + n → lent_word (lent_groups cells from n) x ≡ word_here cells x
+lent_here : (cells : Cells) (from n x : ℕ) → from + n ≤ length cells → from ≤ x / 32 → x / 32 < from + n
+    → lent_word (lent_groups cells from n) x ≡ word_here cells x
 unfolding lent_groups
 lent_here cells from n x fits low high =
     let within : x / 32 - from < n = omega arith in
@@ -81,7 +84,8 @@ or_some None h = cc
 or_some (Some y) h = refl
 
 -- an answer is counted where its note tells it
-asked_told : (n : ℕ) (answer : Question → ℕ) (e : Effect) (s : State) → n + length (answer_in_note (note_of_outcome (done_by answer e s))) ≡ asked_after n (done_by answer e s).act
+asked_told : (n : ℕ) (answer : Question → ℕ) (e : Effect) (s : State) → n + length (answer_in_note (note_of_outcome (done_by answer e s))) ≡ asked_after n
+    (done_by answer e s).act
 asked_told n answer (Failing kind) s = omega arith
 asked_told n answer (Ending after) s = omega arith
 asked_told n answer (Changing after) s = omega arith
@@ -96,7 +100,9 @@ asked_told n answer (Returning true d after) s = omega arith
 asked_told n answer (Returning false d after) s = omega arith
 asked_told n answer (Spooling stream first last after) s = omega arith
 
-module _ (slots : List Slot) (J : List Entry) (reaches : List Reach) (seats : List Seat) (s : Shared) (are : AreSlots slots) (legal : IsLegal slots J) (run : IsRunning reaches seats s) (old : AreFollowing slots J reaches seats s) (lent : AreLent J reaches seats) (i : ℕ) (lt : i < length seats) (heard : ℕ) (note : Note) (meets : Meets (lone_world slots J) slots J heard (Obeys (seat_at seats i).p note)) where
+module _ (slots : List Slot) (J : List Entry) (reaches : List Reach) (seats : List Seat) (s : Shared) (are : AreSlots slots) (legal : IsLegal slots J)
+    (run : IsRunning reaches seats s) (old : AreFollowing slots J reaches seats s) (lent : AreLent J reaches seats) (i : ℕ) (lt : i < length seats) (heard : ℕ)
+    (note : Note) (meets : Meets (lone_world slots J) slots J heard (Obeys (seat_at seats i).p note)) where
   abbrev q : Part
   q = part_at reaches seats i
 
@@ -233,7 +239,8 @@ module _ (slots : List Slot) (J : List Entry) (reaches : List Reach) (seats : Li
   word_own a lt = own_word q n s a lt
 
   -- the transfer that begins
-  module _ (d : ℕ) (o : TransferOrder) (first last : ℕ) (after : Registers) (lawful : IsLawful (own_stock q 0 s).claims (Starting d o first last after)) (clear : first_pending (view q told s) (effect_needs (own_from p 0 s.spots) (Starting d o first last after)) ≡ None) where
+  module _ (d : ℕ) (o : TransferOrder) (first last : ℕ) (after : Registers) (lawful : IsLawful (own_stock q 0 s).claims (Starting d o first last after))
+      (clear : first_pending (view q told s) (effect_needs (own_from p 0 s.spots) (Starting d o first last after)) ≡ None) where
     has : has_device q d ≡ true
     has = start_has q told s d o first last after (own_from p 0 s.spots) part lawful clear
 
@@ -303,7 +310,8 @@ module _ (slots : List Slot) (J : List Entry) (reaches : List Reach) (seats : Li
         let count : q.base + last + 1 - (q.base + first) ≡ last + 1 - first = omega arith in
         ap (λ b. cond b (map word (range_with_len (q.base + first) (q.base + last + 1 - (q.base + first)))) []) is
         ∙ ext_get_or 0 _ _
-        (length-map-range_with_len word (q.base + first) (q.base + last + 1 - (q.base + first)) ∙ count ∙ sym (omega (arith, length-take (last + 1 - first) (drop first l.stock.store), length-drop first l.stock.store, size_same)))
+        (length-map-range_with_len word (q.base + first) (q.base + last + 1 - (q.base + first)) ∙ count
+        ∙ sym (omega (arith, length-take (last + 1 - first) (drop first l.stock.store), length-drop first l.stock.store, size_same)))
         (λ k lt.
         let lt' : k < last + 1 - first = omega (arith, length-map-range_with_len word (q.base + first) (q.base + last + 1 - (q.base + first))) in
         get_or-map-range_with_len word (q.base + first) (q.base + last + 1 - (q.base + first)) k (q.base + (first + k)) 0 (omega arith) (omega arith)
@@ -322,7 +330,18 @@ module _ (slots : List Slot) (J : List Entry) (reaches : List Reach) (seats : Li
     f = beginning o first last l
 
     abbrev held : Held
-    held = record { p = q.p; motion = record { order = o; first = q.base + first; last = q.base + last; fixture = fixture_or (spot_at s.spots d).fixture; progress = (spot_at s.spots d).progress; lease = start_lease o (q.base + first) (q.base + last) s.cells; moved = 0 } }
+    held = record {
+      p = q.p;
+      motion = record {
+        order = o;
+        first = q.base + first;
+        last = q.base + last;
+        fixture = fixture_or (spot_at s.spots d).fixture;
+        progress = (spot_at s.spots d).progress;
+        lease = start_lease o (q.base + first) (q.base + last) s.cells;
+        moved = 0;
+      };
+    }
 
     link_new : IsLink q d held f
     link_new =
@@ -338,7 +357,8 @@ module _ (slots : List Slot) (J : List Entry) (reaches : List Reach) (seats : Li
           words = λ not. area_is;
         }
 
-    linked_new : (e : ℕ) → Linked q e (spot_at (set s.spots d (start_spot q.p o (q.base + first) (q.base + last) s.cells (spot_at s.spots d))) e).flight (with_flight d (Some f) fs e)
+    linked_new : (e : ℕ) → Linked q e (spot_at (set s.spots d (start_spot q.p o (q.base + first) (q.base + last) s.cells (spot_at s.spots d))) e).flight
+        (with_flight d (Some f) fs e)
     linked_new =
         linked_set q s.spots d (start_spot q.p o (q.base + first) (q.base + last) s.cells (spot_at s.spots d)) fs (with_flight d (Some f) fs) inside fol.linked
         (λ e ne. with_flight_other d e (Some f) fs ne)
@@ -348,8 +368,10 @@ module _ (slots : List Slot) (J : List Entry) (reaches : List Reach) (seats : Li
   left e = after_act q s (done_by answer e mine).act
 
   -- what is given back has no transfer then, as before
-  flight_back : (x : ℕ) (after : Registers) → first_pending (view q told s) (effect_needs (own_from p 0 s.spots) (Returning true x after)) ≡ None → (d : ℕ) → (spot_at (left (Returning true x after)).spots d).flight ≡ (spot_at s.spots d).flight
-  flight_back x after clear d = same_at (λ (y : Spot). y.flight) s.spots x d (blank_spot (spot_at s.spots x)) (sym (idle_back (is_some (spot_at s.spots x).flight) refl))
+  flight_back : (x : ℕ) (after : Registers) → first_pending (view q told s) (effect_needs (own_from p 0 s.spots) (Returning true x after)) ≡ None → (d : ℕ)
+      → (spot_at (left (Returning true x after)).spots d).flight ≡ (spot_at s.spots d).flight
+  flight_back x after clear d = same_at (λ (y : Spot). y.flight) s.spots x d (blank_spot (spot_at s.spots x))
+      (sym (idle_back (is_some (spot_at s.spots x).flight) refl))
     where
       none_of : (o : Option Held) → is_some o ≡ false → o ≡ None
       none_of None h = refl
@@ -359,23 +381,30 @@ module _ (slots : List Slot) (J : List Entry) (reaches : List Reach) (seats : Li
       idle_back true is = cc (sym (ap (λ b. cond b (Some (Device x)) None) is) ∙ clear)
       idle_back false is = none_of (spot_at s.spots x).flight is
 
-  linked_by : (e : Effect) → IsLawful (own_stock q 0 s).claims e → first_pending (view q told s) (effect_needs (own_from p 0 s.spots) e) ≡ None → (d : ℕ) → Linked q d (spot_at (left e).spots d).flight (flights_after fs l e d)
+  linked_by : (e : Effect) → IsLawful (own_stock q 0 s).claims e → first_pending (view q told s) (effect_needs (own_from p 0 s.spots) e) ≡ None → (d : ℕ)
+      → Linked q d (spot_at (left e).spots d).flight (flights_after fs l e d)
   linked_by (Starting x o first last after) lawful clear d = linked_new x o first last after lawful clear d
   linked_by (Returning true x after) lawful clear d = subst (λ f. Linked q d f (fs d)) (sym (flight_back x after clear d)) (fol.linked d)
   linked_by (Returning false x after) lawful clear d = fol.linked d
   linked_by e lawful clear d = fol.linked d
 
   -- of another program
-  other_by : (x : Part) (own : State) → IsFollowing slots J x own s → q.p ≢ x.p → (e : Effect) → IsLawful (own_stock q 0 s).claims e → first_pending (view q told s) (effect_needs (own_from p 0 s.spots) e) ≡ None → (d : ℕ) → Linked x d (spot_at (left e).spots d).flight (flights_of slots J x.p d)
+  other_by : (x : Part) (own : State) → IsFollowing slots J x own s → q.p ≢ x.p → (e : Effect) → IsLawful (own_stock q 0 s).claims e
+      → first_pending (view q told s) (effect_needs (own_from p 0 s.spots) e) ≡ None → (d : ℕ)
+      → Linked x d (spot_at (left e).spots d).flight (flights_of slots J x.p d)
   other_by x own follows ne (Starting d o first last after) lawful clear e =
-      linked_set x s.spots d (start_spot q.p o (q.base + first) (q.base + last) s.cells (spot_at s.spots d)) (flights_of slots J x.p) (flights_of slots J x.p) (inside d o first last after lawful clear) follows.linked (λ e ne'. refl)
+      linked_set x s.spots d (start_spot q.p o (q.base + first) (q.base + last) s.cells (spot_at s.spots d)) (flights_of slots J x.p) (flights_of slots J x.p)
+      (inside d o first last after lawful clear) follows.linked (λ e ne'. refl)
       (subst (Linked x d (start_spot q.p o (q.base + first) (q.base + last) s.cells (spot_at s.spots d)).flight)
-      (sym (linked_none x d (flights_of slots J x.p d) (subst (λ y. Linked x d y (flights_of slots J x.p d)) (idle d o first last after lawful clear) (follows.linked d)))) ne) e
-  other_by x own follows ne (Returning true y after) lawful clear d = subst (λ f. Linked x d f (flights_of slots J x.p d)) (sym (flight_back y after clear d)) (follows.linked d)
+      (sym (linked_none x d (flights_of slots J x.p d) (subst (λ y. Linked x d y (flights_of slots J x.p d)) (idle d o first last after lawful clear)
+      (follows.linked d)))) ne) e
+  other_by x own follows ne (Returning true y after) lawful clear d = subst (λ f. Linked x d f (flights_of slots J x.p d)) (sym (flight_back y after clear d))
+      (follows.linked d)
   other_by x own follows ne (Returning false y after) lawful clear d = follows.linked d
   other_by x own follows ne e lawful clear d = follows.linked d
 
-  busy_by : (e : Effect) → IsLawful (own_stock q 0 s).claims e → first_pending (view q told s) (effect_needs (own_from p 0 s.spots) e) ≡ None → (k d : ℕ) → is_some (spot_at (left e).spots d).flight ≡ is_some (pending_behind p k d (pending d J) e)
+  busy_by : (e : Effect) → IsLawful (own_stock q 0 s).claims e → first_pending (view q told s) (effect_needs (own_from p 0 s.spots) e) ≡ None → (k d : ℕ)
+      → is_some (spot_at (left e).spots d).flight ≡ is_some (pending_behind p k d (pending d J) e)
   busy_by (Starting x o first last after) lawful clear k d =
       ⊎_elim
       (λ (same : d ≡ x).
@@ -395,15 +424,18 @@ module _ (slots : List Slot) (J : List Entry) (reaches : List Reach) (seats : Li
   busy_by e lawful clear k d = old.busy d
 
   -- all programs, after the turn
-  pub turn_follows : (seats' : List Seat) (s' : Shared) (ended : Ended) (noted : Noted) → HasTurned reaches (moment (clock J) heard) i seats s seats' s' ended noted → AreFollowing slots J' reaches seats' s'
+  pub turn_follows : (seats' : List Seat) (s' : Shared) (ended : Ended) (noted : Noted)
+      → HasTurned reaches (moment (clock J) heard) i seats s seats' s' ended noted → AreFollowing slots J' reaches seats' s'
   turn_follows seats' s' ended noted turned =
       record {
         each = λ j lt'.
             let within : j < length seats = (let c = turned.count in omega arith) in
-            follow_part slots J' (part_at reaches seats j) (part_at reaches seats' j) (own_state reaches seats' s' (asked_at seats' J' j) j) s' (turned.numbers j) refl
+            follow_part slots J' (part_at reaches seats j) (part_at reaches seats' j) (own_state reaches seats' s' (asked_at seats' J' j) j) s'
+            (turned.numbers j) refl
             (subst (λ k. IsFollowing slots J' (part_at reaches seats j) (own_state reaches seats' s' (length (answers k J')) j) s') (sym (turned.numbers j))
             (⊎_elim
-            (λ (same : j ≡ i). subst (λ k. IsFollowing slots J' (part_at reaches seats k) (own_state reaches seats' s' (asked_at seats J' k) k) s') (sym same) its)
+            (λ (same : j ≡ i). subst (λ k. IsFollowing slots J' (part_at reaches seats k) (own_state reaches seats' s' (asked_at seats J' k) k) s')
+            (sym same) its)
             (λ (ne : j ≢ i). others j within ne)
             (cases_eq j i)));
         busy = λ d.
@@ -447,5 +479,6 @@ module _ (slots : List Slot) (J : List Entry) (reaches : List Reach) (seats : Li
             linked = λ d.
                 subst (λ f. Linked (part_at reaches seats j) d f (flights_of slots J' (seat_at seats j).p d)) (sym (flight_is d))
                 (subst (λ gs. Linked (part_at reaches seats j) d (spot_at (left (next_effect mine)).spots d).flight (gs d)) (sym stay.1)
-                (other_by (part_at reaches seats j) (own_state reaches seats s (asked_at seats J j) j) (old.each j within) apart (next_effect mine) lawful_mine free_mine d));
+                (other_by (part_at reaches seats j) (own_state reaches seats s (asked_at seats J j) j) (old.each j within) apart (next_effect mine) lawful_mine
+                free_mine d));
           }

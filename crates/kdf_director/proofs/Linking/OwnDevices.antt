@@ -1,7 +1,8 @@
 -- Devices and claims by number are those of the program that has them.
 use Rattle.std.specs.Prelude.{not}
 use Rattle.std.specs.List.{All, position_or_len}
-use Rattle.std.proofs.Common.{◌≡◌, ◌≢◌, ℕ, ◌+◌, ◌<◌, ◌≤◌, Bool, true, false, ◌&&◌, ltb, List, [], ◌∷◌, length, get_or, map, Option, Some, None, is_some, cond, refl, sym, ap, ap₂, ◌∙◌, subst, ⊎_elim, arith}
+use Rattle.std.proofs.Common.{◌≡◌, ◌≢◌, ℕ, ◌+◌, ◌<◌, ◌≤◌, Bool, true, false, ◌&&◌, ltb, List, [], ◌∷◌, length, get_or, map, Option, Some, None, is_some, cond}
+use Rattle.std.proofs.Common.{refl, sym, ap, ap₂, ◌∙◌, subst, ⊎_elim, arith}
 use Rattle.std.proofs.lemmas.Bool.{cases_eq, cases_lt, le-ltb, lt-ltb, ltb-true, or_left}
 use Rattle.std.proofs.lemmas.List.{get_or_past, length-map}
 use Rattle.std.proofs.lemmas.List.FromFn.{length-map-range_with_len, get_or-map-range_with_len}
@@ -54,7 +55,8 @@ some_left : (b : Bool) (n i : ℕ) → cond b (Some n) None ≡ Some i → (b �
 some_left true n i is = (refl, cc)
 some_left false n i is = cc
 
-pub owner_has : (windows : List Window) (slots : List Loaded) (d i : ℕ) → owner_in slots d ≡ Some i → (i < length slots) × (owns (reach_at (reaches_in windows slots) i).devices d ≡ true)
+pub owner_has : (windows : List Window) (slots : List Loaded) (d i : ℕ) → owner_in slots d ≡ Some i
+    → (i < length slots) × (owns (reach_at (reaches_in windows slots) i).devices d ≡ true)
 owner_has windows slots d i is =
     let left = some_left (ltb (first windows slots d) (length slots)) (first windows slots d) i is in
     let lt : first windows slots d < length slots = ltb-true _ _ left.0 in
@@ -66,7 +68,8 @@ owner_has windows slots d i is =
           (passes_at_first (has d) (reaches_in windows slots) (record { base = 0; size = 0; devices = []; pool = []; served = false }) (omega arith)),
     )
 
-pub owner_none : (windows : List Window) (slots : List Loaded) (d i : ℕ) → owner_in slots d ≡ None → i < length slots → owns (reach_at (reaches_in windows slots) i).devices d ≡ false
+pub owner_none : (windows : List Window) (slots : List Loaded) (d i : ℕ) → owner_in slots d ≡ None → i < length slots
+    → owns (reach_at (reaches_in windows slots) i).devices d ≡ false
 owner_none windows slots d i is lt =
     fails_before_first (has d) (reaches_in windows slots) i (record { base = 0; size = 0; devices = []; pool = []; served = false })
     (let same = first_map (reach_of windows) (has d) slots in
@@ -87,7 +90,8 @@ claims_is true None (Some f) is = refl
 claims_is true None None is = cc
 claims_is false k f is = refl
 
-module _ (windows : List Window) (loads : List Loaded) (slots : List Slot) (seats : List Seat) (s : Shared) (J : List Entry) (room : ℕ) (many : length loads ≡ length seats) (a : Agrees slots (reaches_in windows loads) seats s J) (d : ℕ) where
+module _ (windows : List Window) (loads : List Loaded) (slots : List Slot) (seats : List Seat) (s : Shared) (J : List Entry) (room : ℕ)
+    (many : length loads ≡ length seats) (a : Agrees slots (reaches_in windows loads) seats s J) (d : ℕ) where
   abbrev reaches : List Reach
   reaches = reaches_in windows loads
 
@@ -113,9 +117,11 @@ module _ (windows : List Window) (loads : List Loaded) (slots : List Slot) (seat
   unfolding own_state
   progress_is i small its = own_device (part_at reaches seats i) (asked_at seats J i) s d small its
 
-  claim_is : (i : ℕ) → is_some (own_fixture_at (own_at i).stock.claims d) ≡ true → is_claimed (own_at i).stock.claims d ≡ (ltb d 16 && get_or (seat_at seats i).claimed d false)
+  claim_is : (i : ℕ) → is_some (own_fixture_at (own_at i).stock.claims d) ≡ true
+      → is_claimed (own_at i).stock.claims d ≡ (ltb d 16 && get_or (seat_at seats i).claimed d false)
   unfolding own_state
-  claim_is i some = claims_is (ltb d 16 && get_or (seat_at seats i).claimed d false) (pool_kind (part_at reaches seats i) d) (own_fixture_at (own_claims (part_at reaches seats i) s) d) some
+  claim_is i some = claims_is (ltb d 16 && get_or (seat_at seats i).claimed d false) (pool_kind (part_at reaches seats i) d)
+      (own_fixture_at (own_claims (part_at reaches seats i) s) d) some
 
   small : (i : ℕ) → is_some (own_fixture_at (own_at i).stock.claims d) ≡ true → d < device_count
   small i some =
@@ -124,7 +130,8 @@ module _ (windows : List Window) (loads : List Loaded) (slots : List Slot) (seat
       (λ (past : device_count ≤ d). cc (sym some ∙ ap is_some (fixture_is i ∙ number_past (own_fixture (part_at reaches seats i) s.spots) d None past)))
       (cases_lt d device_count)
 
-  by_place : (i : ℕ) → is_some (own_fixture_at (own_at i).stock.claims d) ≡ true → own_fixture_at (own_at i).stock.claims d ≡ own_fixture (part_at reaches seats i) s.spots d
+  by_place : (i : ℕ) → is_some (own_fixture_at (own_at i).stock.claims d) ≡ true
+      → own_fixture_at (own_at i).stock.claims d ≡ own_fixture (part_at reaches seats i) s.spots d
   by_place i some = fixture_is i ∙ own_is (part_at reaches seats i) s d (small i some)
 
   owned : (i : ℕ) → is_some (own_fixture_at (own_at i).stock.claims d) ≡ true → owns (reach_at reaches i).devices d ≡ true
@@ -168,7 +175,8 @@ module _ (windows : List Window) (loads : List Loaded) (slots : List Slot) (seat
           (cases_eq j i))
 
   -- what is found by its number is a program's device
-  pub device_own : (p : ℕ) (state : State) (o : Option Device) → state_of m p ≡ Some state → is_some (own_fixture_at state.stock.claims d) ≡ true → IsDeviceOwned (owner_in loads d) (spot_at s.spots d) o → IsDeviceAt state d o
+  pub device_own : (p : ℕ) (state : State) (o : Option Device) → state_of m p ≡ Some state → is_some (own_fixture_at state.stock.claims d) ≡ true
+      → IsDeviceOwned (owner_in loads d) (spot_at s.spots d) o → IsDeviceAt state d o
   device_own p state o there some is =
       let at = program_is slots reaches seats s J room a p (ap is_some there) in
       let same : own_at at.0 ≡ state = some_same (sym (state_is slots reaches seats s J room a p at.0 at.1 at.2) ∙ there) in
@@ -179,11 +187,13 @@ module _ (windows : List Window) (loads : List Loaded) (slots : List Slot) (seat
       some_same : {x y : State} → Some x ≡ Some y → x ≡ y
       some_same e = cc
 
-      shown : (i : ℕ) → i < length seats → is_some (own_fixture_at (own_at i).stock.claims d) ≡ true → (o : Option Device) → IsDeviceOf (spot_at s.spots d) o → IsDeviceAt (own_at i) d o
+      shown : (i : ℕ) → i < length seats → is_some (own_fixture_at (own_at i).stock.claims d) ≡ true → (o : Option Device) → IsDeviceOf (spot_at s.spots d) o
+          → IsDeviceAt (own_at i) d o
       shown i lt some None is = spot_is i some ∙ is
       shown i lt some (Some device) is = (spot_is i some ∙ is.0, progress_is i (small i some) (its_own i (owned i some)) ∙ is.1)
 
-  pub claimed_own : (pool : List (ℕ × Kind)) (p : ℕ) (state : State) → state_of m p ≡ Some state → is_some (own_fixture_at state.stock.claims d) ≡ true → is_claimed_by (owner_in loads d) seats pool J d ≡ is_claimed state.stock.claims d
+  pub claimed_own : (pool : List (ℕ × Kind)) (p : ℕ) (state : State) → state_of m p ≡ Some state → is_some (own_fixture_at state.stock.claims d) ≡ true
+      → is_claimed_by (owner_in loads d) seats pool J d ≡ is_claimed state.stock.claims d
   claimed_own pool p state there some =
       let at = program_is slots reaches seats s J room a p (ap is_some there) in
       let same : own_at at.0 ≡ state = some_same (sym (state_is slots reaches seats s J room a p at.0 at.1 at.2) ∙ there) in
@@ -208,7 +218,8 @@ module _ (windows : List Window) (loads : List Loaded) (slots : List Slot) (seat
           let own : get_or m.states j (start_of None) ≡ own_at j = get_or-map-range_with_len own_at 0 (length seats) j j (start_of None) lt (omega arith) in
           cc (sym (has_it j lt at.1) ∙ ap is_some (subst (λ (x : State). own_fixture_at x.stock.claims d ≡ None) own (none j (start_of None) (omega arith))))
 
-  pub device_none : (o : Option Device) → All (λ (x : State). own_fixture_at x.stock.claims d ≡ None) m.states → IsDeviceOwned (owner_in loads d) (spot_at s.spots d) o → o ≡ None
+  pub device_none : (o : Option Device) → All (λ (x : State). own_fixture_at x.stock.claims d ≡ None) m.states
+      → IsDeviceOwned (owner_in loads d) (spot_at s.spots d) o → o ≡ None
   device_none o none is = subst (λ owner. IsDeviceOwned owner (spot_at s.spots d) o) (none_owns none) is
 
   -- ---- a device of the pool
@@ -227,7 +238,8 @@ module _ (windows : List Window) (loads : List Loaded) (slots : List Slot) (seat
             let within : j < length seats = (let low = at.0 in omega arith) in
             cc (sym ((a.running.kept j within).apart d at.1) ∙ in_it j within ∙ sym (in_it i lt) ∙ pooled)
 
-    pub claimed_pooled : (p : ℕ) (state : State) → state_of m p ≡ Some state → is_pooled state.stock.claims d ≡ true → is_claimed_by (owner_in loads d) seats pool J d ≡ is_some (holder d J)
+    pub claimed_pooled : (p : ℕ) (state : State) → state_of m p ≡ Some state → is_pooled state.stock.claims d ≡ true
+        → is_claimed_by (owner_in loads d) seats pool J d ≡ is_some (holder d J)
     claimed_pooled p state there pooled =
         let at = program_is slots reaches seats s J room a p (ap is_some there) in
         let same : own_at at.0 ≡ state = some_same (sym (state_is slots reaches seats s J room a p at.0 at.1 at.2) ∙ there) in
@@ -241,9 +253,12 @@ module _ (windows : List Window) (loads : List Loaded) (slots : List Slot) (seat
         some_same e = cc
 
     -- where neither a slot nor the pool has the number, nothing is claimed
-    pub claimed_none : (length seats ≡ 0 → pool ≡ []) → All (λ (x : State). fixture_at x.stock.claims d ≡ None) m.states → is_claimed_by (owner_in loads d) seats pool J d ≡ false
+    pub claimed_none : (length seats ≡ 0 → pool ≡ []) → All (λ (x : State). fixture_at x.stock.claims d ≡ None) m.states
+        → is_claimed_by (owner_in loads d) seats pool J d ≡ false
     claimed_none empty none =
-        ap (λ owner. is_claimed_by owner seats pool J d) (none_owns (λ j x lt. (neither (pool_kind_at (get_or m.states j x).stock.claims d) (own_fixture_at (get_or m.states j x).stock.claims d) (none j x lt)).1))
+        ap (λ owner. is_claimed_by owner seats pool J d)
+        (none_owns (λ j x lt. (neither (pool_kind_at (get_or m.states j x).stock.claims d) (own_fixture_at (get_or m.states j x).stock.claims d)
+        (none j x lt)).1))
         ∙ ⊎_elim
         (λ (small : d < device_count). ap (λ k. ltb d 16 && (is_some k && is_some (holder d J))) (no_kind small) ∙ and_none (ltb d 16))
         (λ (past : device_count ≤ d). ap (λ b. b && (is_some (lent_kind pool d) && is_some (holder d J))) (le-ltb d 16 (omega (arith, limit_is))))
@@ -265,6 +280,7 @@ module _ (windows : List Window) (loads : List Loaded) (slots : List Slot) (seat
             let own : get_or m.states 0 (start_of None) ≡ own_at 0 = get_or-map-range_with_len own_at 0 (length seats) 0 0 (start_of None) some (omega arith) in
             sym (number_at (lent_kind pool) d None small)
             ∙ ap (λ (ks : List (Option Kind)). get_or ks d None) (sym (lends 0 some))
-            ∙ (neither (pool_kind (part_at reaches seats 0) d) (own_fixture_at (own_at 0).stock.claims d) (any_is 0 ∙ ap (λ (x : State). fixture_at x.stock.claims d) (sym own) ∙ none 0 (start_of None) (omega arith))).0)
+            ∙ (neither (pool_kind (part_at reaches seats 0) d) (own_fixture_at (own_at 0).stock.claims d)
+            (any_is 0 ∙ ap (λ (x : State). fixture_at x.stock.claims d) (sym own) ∙ none 0 (start_of None) (omega arith))).0)
             (λ (no : length seats ≤ 0). ap (λ (p : List (ℕ × Kind)). lent_kind p d) (empty (omega arith)))
             (cases_lt 0 (length seats))

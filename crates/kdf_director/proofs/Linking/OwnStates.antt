@@ -67,7 +67,8 @@ module _ (slots : List Slot) (reaches : List Reach) (seats : List Seat) (s : Sha
   has_number p x = eqb x.p p
 
   -- the program of a number is the one whose state it is
-  pub found_state : (p : ℕ) (x : Seat) → find (has_number p) seats ≡ Some x → (i : ℕ) × (i < length seats) × (seat_at seats i ≡ x) × (state_of m p ≡ Some (own_at i))
+  pub found_state : (p : ℕ) (x : Seat) → find (has_number p) seats ≡ Some x → (i : ℕ) × (i < length seats) × (seat_at seats i ≡ x)
+      × (state_of m p ≡ Some (own_at i))
   found_state p x is =
       let found = find_at (has_number p) seats x no_seat is in
       let number : (seat_at seats found.0).p ≡ p = ap (λ (y : Seat). y.p) found.2 ∙ eqb-true x.p p found.3 in
@@ -83,7 +84,8 @@ module _ (slots : List Slot) (reaches : List Reach) (seats : List Seat) (s : Sha
           cc (sym (find_none (has_number p) seats no_seat is there.0 there.1) ∙ eq-eqb (seat_at seats there.0).p p there.2)
 
   -- what is the same of a program and of its state
-  pub told_of : {X : Type 0} (f : Seat → X) (g : State → X) (p : ℕ) → ((i : ℕ) → i < length seats → g (own_at i) ≡ f (seat_at seats i)) → option_map f (find (has_number p) seats) ≡ option_map g (state_of m p)
+  pub told_of : {X : Type 0} (f : Seat → X) (g : State → X) (p : ℕ) → ((i : ℕ) → i < length seats → g (own_at i) ≡ f (seat_at seats i))
+      → option_map f (find (has_number p) seats) ≡ option_map g (state_of m p)
   told_of f g p same = by_seat (find (has_number p) seats) refl
     where
       by_seat : (o : Option Seat) → find (has_number p) seats ≡ o → option_map f o ≡ option_map g (state_of m p)

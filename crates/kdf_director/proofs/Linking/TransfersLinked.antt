@@ -1,5 +1,6 @@
 -- The links of transfers with what the journal tells, as words move and transfers end.
-use Rattle.std.proofs.Common.{◌≡◌, ◌≢◌, ℕ, zero, suc, ◌+◌, ◌-◌, ◌<◌, ◌≤◌, min, Bool, true, false, List, [], length, set, take, drop, Option, Some, None, cond, refl, sym, ap, ap₂, ◌∙◌, subst, ⊎_elim, arith}
+use Rattle.std.proofs.Common.{◌≡◌, ◌≢◌, ℕ, zero, suc, ◌+◌, ◌-◌, ◌<◌, ◌≤◌, min, Bool, true, false, List, [], length, set, take, drop, Option, Some, None, cond}
+use Rattle.std.proofs.Common.{refl, sym, ap, ap₂, ◌∙◌, subst, ⊎_elim, arith}
 use Rattle.std.specs.Option.{option_map}
 use Rattle.std.proofs.lemmas.Bool.{cases_Bool, cases_eq}
 use Rattle.std.proofs.lemmas.List.{get_or-set_same, get_or-set_other, take_all, length-drop}
@@ -7,7 +8,8 @@ use Rattle.kdf_journal.specs.declared.entry.Entry.{Entry}
 use Rattle.kdf_journal.specs.Counts.{answers}
 use Rattle.kdf_journal.specs.Steps.{Step, Moves, Ends, added}
 use Rattle.kdf_transfer.specs.declared.order.TransferOrder.{TransferOrder}
-use Rattle.kdf_transfer.specs.AtOnce.{is_input, is_output, has_area, given, offered, stopped, moved_words, finished, area_len, words_out, device_after, addressed, order_words, written}
+use Rattle.kdf_transfer.specs.AtOnce.{is_input, is_output, has_area, given, offered, stopped, moved_words, finished, area_len, words_out, device_after}
+use Rattle.kdf_transfer.specs.AtOnce.{addressed, order_words, written}
 use Rattle.kdf_transfer.specs.Devices.{Fixture, Progress, new_progress}
 use Rattle.kdf_transfer.specs.InFlight.{Motion, put_words, moves_of, all_words, area_words, words_of, total_of, moved_by, ended_progress}
 use Rattle.kdf_transfer.proofs.Addresses.{length-addressed}
@@ -49,7 +51,9 @@ linked_none q d None link = refl
 linked_none q d (Some f) link = absurd link
 
 -- one spot is another
-pub linked_set : (q : Part) (spots : List Spot) (d : ℕ) (x : Spot) (fs gs : ℕ → Option Flight) → d < length spots → ((e : ℕ) → Linked q e (spot_at spots e).flight (fs e)) → ((e : ℕ) → e ≢ d → gs e ≡ fs e) → Linked q d x.flight (gs d) → (e : ℕ) → Linked q e (spot_at (set spots d x) e).flight (gs e)
+pub linked_set : (q : Part) (spots : List Spot) (d : ℕ) (x : Spot) (fs gs : ℕ → Option Flight) → d < length spots
+    → ((e : ℕ) → Linked q e (spot_at spots e).flight (fs e)) → ((e : ℕ) → e ≢ d → gs e ≡ fs e) → Linked q d x.flight (gs d) → (e : ℕ)
+    → Linked q e (spot_at (set spots d x) e).flight (gs e)
 linked_set q spots d x fs gs lt old others this e =
     ⊎_elim
     (λ (same : e ≡ d).
@@ -63,7 +67,8 @@ linked_set q spots d x fs gs lt old others this e =
 -- ---- the words of a transfer are those of its flight
 
 -- what is offered over an area that is placed
-offered_placed : (o : TransferOrder) (base first last : ℕ) (ws us : List ℕ) (x : Fixture) (p : Progress) → (is_input o ≡ false → ws ≡ us) → offered o (base + first) (base + last) ws x p ≡ offered o first last us x p
+offered_placed : (o : TransferOrder) (base first last : ℕ) (ws us : List ℕ) (x : Fixture) (p : Progress) → (is_input o ≡ false → ws ≡ us)
+    → offered o (base + first) (base + last) ws x p ≡ offered o first last us x p
 unfolding offered
 offered_placed o base first last ws us x p same =
     let count : base + last + 1 - (base + first) ≡ last + 1 - first = omega arith in
@@ -128,7 +133,8 @@ module _ (q : Part) (d : ℕ) (h : Held) (f : Flight) (link : IsLink q d h f) wh
       moves_are (total_of m)
       ∙ take_all (total_of m) (unmoved d f) (⊎_elim
       (λ (is : is_input f.order ≡ true).
-      let left : length (unmoved d f) ≤ length (all_moves d f) = (let e = ap length (arrivals_input d f is) in let l = length-drop f.moved (arrivals d f) in omega arith) in
+      let left : length (unmoved d f) ≤ length (all_moves d f) =
+      (let e = ap length (arrivals_input d f is) in let l = length-drop f.moved (arrivals d f) in omega arith) in
       omega arith)
       (λ (not : is_input f.order ≡ false).
       let e = ap length (arrivals_none d f not) in
@@ -159,7 +165,8 @@ module _ (q : Part) (d : ℕ) (h : Held) (f : Flight) (link : IsLink q d h f) wh
           (cases_Bool (is_input f.order))
 
 -- the link of a transfer after n words more
-pub link_moved : (q : Part) (d n : ℕ) (h : Held) (f : Flight) → IsLink q d h f → IsLink q d (record { p = h.p; motion = moved_by n h.motion }) (moved_to (min (f.moved + n) (move_count d f)) f)
+pub link_moved : (q : Part) (d n : ℕ) (h : Held) (f : Flight) → IsLink q d h f
+    → IsLink q d (record { p = h.p; motion = moved_by n h.motion }) (moved_to (min (f.moved + n) (move_count d f)) f)
 unfolding moved_by
 link_moved q d n h f link =
     record {
@@ -172,12 +179,14 @@ link_moved q d n h f link =
       progress = link.progress;
       moved = ap₂ (λ x t. min (x + n) t) link.moved (sym (count_is q d h f link));
       words = λ not.
-          ap (λ b. area_words h.motion.order h.motion.first h.motion.last (cond b (option_map (put_words (take n (drop h.motion.moved (moves_of h.motion)))) h.motion.lease) h.motion.lease)) (ap is_input link.order ∙ not)
+          ap (λ b. area_words h.motion.order h.motion.first h.motion.last
+          (cond b (option_map (put_words (take n (drop h.motion.moved (moves_of h.motion)))) h.motion.lease) h.motion.lease)) (ap is_input link.order ∙ not)
           ∙ link.words not;
     }
 
 -- ---- one program
-module _ (slots : List Slot) (J : List Entry) (q : Part) (mine : State) (s : Shared) (d : ℕ) (asked : (own slots J q.p).stock.asked ≡ length (answers q.p J)) (course : IsOnCourse slots J q.p) (fol : IsFollowing slots J q mine s) (lt : d < length s.spots) where
+module _ (slots : List Slot) (J : List Entry) (q : Part) (mine : State) (s : Shared) (d : ℕ) (asked : (own slots J q.p).stock.asked ≡ length (answers q.p J))
+    (course : IsOnCourse slots J q.p) (fol : IsFollowing slots J q mine s) (lt : d < length s.spots) where
   abbrev fs : ℕ → Option Flight
   fs = flights_of slots J q.p
 
@@ -186,7 +195,8 @@ module _ (slots : List Slot) (J : List Entry) (q : Part) (mine : State) (s : Sha
   same_seen st o f = fol.is_seen ∙ sym (ap₂ seen f o)
 
   -- where the transfer isn't the program's, or there is none
-  keep : (st : Step) (s' : Shared) (x : Spot) → own slots (added J st) q.p ≡ own slots J q.p → flights_of slots (added J st) q.p ≡ fs → fs d ≡ None → s'.spots ≡ set s.spots d x → Linked q d x.flight None → IsFollowing slots (added J st) q mine s'
+  keep : (st : Step) (s' : Shared) (x : Spot) → own slots (added J st) q.p ≡ own slots J q.p → flights_of slots (added J st) q.p ≡ fs → fs d ≡ None
+      → s'.spots ≡ set s.spots d x → Linked q d x.flight None → IsFollowing slots (added J st) q mine s'
   keep st s' x o f idle is this =
       record {
         is_seen = same_seen st o f;
@@ -201,7 +211,8 @@ module _ (slots : List Slot) (J : List Entry) (q : Part) (mine : State) (s : Sha
 
     module _ (f : Flight) (this : fs d ≡ Some f) (is : IsLink q d h f) where
       -- n words of it
-      own_moved : (n : ℕ) → IsFollowing slots (added J (Moves d n)) q (with_store mine (written (flight_moves q.base n h.motion) mine.stock.store)) (after_move d n s)
+      own_moved : (n : ℕ) → IsFollowing slots (added J (Moves d n)) q (with_store mine (written (flight_moves q.base n h.motion) mine.stock.store))
+          (after_move d n s)
       own_moved n =
           record {
             is_seen =
@@ -223,12 +234,15 @@ module _ (slots : List Slot) (J : List Entry) (q : Part) (mine : State) (s : Sha
           then = flights-move slots J q.p asked course.past d n ∙ ap (λ g. with_flight d (further d n g) fs) this
 
       -- its end
-      own_ended : IsFollowing slots (added J (Ends d)) q (with_both mine (written (flight_moves q.base (total_of h.motion) h.motion) mine.stock.store) (set mine.stock.devices d (ended_progress h.motion))) (after_end d s)
+      own_ended : IsFollowing slots (added J (Ends d)) q (with_both mine (written (flight_moves q.base (total_of h.motion) h.motion) mine.stock.store)
+          (set mine.stock.devices d (ended_progress h.motion))) (after_end d s)
       own_ended =
           record {
             is_seen =
-                ap (λ (x : State). with_both x (written (flight_moves q.base (total_of h.motion) h.motion) x.stock.store) (set x.stock.devices d (ended_progress h.motion))) fol.is_seen
-                ∙ ap₂ (λ ms x. with_both (seen_of slots J q.p) (written ms (seen_of slots J q.p).stock.store) (set (seen_of slots J q.p).stock.devices d x)) (rest_is q d h f is) (ended_is q d h f is)
+                ap (λ (x : State). with_both x (written (flight_moves q.base (total_of h.motion) h.motion) x.stock.store)
+                (set x.stock.devices d (ended_progress h.motion))) fol.is_seen
+                ∙ ap₂ (λ ms x. with_both (seen_of slots J q.p) (written ms (seen_of slots J q.p).stock.store) (set (seen_of slots J q.p).stock.devices d x))
+                (rest_is q d h f is) (ended_is q d h f is)
                 ∙ sym (end-seen slots J q.p asked course d f this);
             linked =
                 subst (λ gs. (e : ℕ) → Linked q e (spot_at (after_end d s).spots e).flight (gs e)) (sym (flights-end slots J q.p asked course.past d))
@@ -251,10 +265,12 @@ module _ (slots : List Slot) (J : List Entry) (q : Part) (mine : State) (s : Sha
       same : own slots (added J (Moves d n)) q.p ≡ own slots J q.p
       same = own-same slots J (Moves d n) q.p refl refl
 
-      by_flight : (o : Option Held) → (spot_at s.spots d).flight ≡ o → IsFollowing slots (added J (Moves d n)) q (moved_own q n (spot_at s.spots d).flight mine) (after_move d n s)
+      by_flight : (o : Option Held) → (spot_at s.spots d).flight ≡ o
+          → IsFollowing slots (added J (Moves d n)) q (moved_own q n (spot_at s.spots d).flight mine) (after_move d n s)
       by_flight None idle =
           subst (λ o. IsFollowing slots (added J (Moves d n)) q (moved_own q n o mine) (after_move d n s)) (sym idle)
-          (keep (Moves d n) (after_move d n s) (moved_spot n (spot_at s.spots d)) same (move-none slots J q.p asked course d n (idle_none idle)) (idle_none idle) refl (subst (λ o. Linked q d (moved_held n o) None) (sym idle) tt))
+          (keep (Moves d n) (after_move d n s) (moved_spot n (spot_at s.spots d)) same (move-none slots J q.p asked course d n (idle_none idle))
+          (idle_none idle) refl (subst (λ o. Linked q d (moved_held n o) None) (sym idle) tt))
       by_flight (Some h) flies =
           subst (λ o. IsFollowing slots (added J (Moves d n)) q (moved_own q n o mine) (after_move d n s)) (sym flies)
           (⊎_elim
@@ -264,7 +280,8 @@ module _ (slots : List Slot) (J : List Entry) (q : Part) (mine : State) (s : Sha
           (λ (ne : h.p ≢ q.p).
           let idle = idle_other h flies ne in
           subst (λ x. IsFollowing slots (added J (Moves d n)) q x (after_move d n s)) (sym (passed h.p q.p _ mine ne))
-          (keep (Moves d n) (after_move d n s) (moved_spot n (spot_at s.spots d)) same (move-none slots J q.p asked course d n idle) idle refl (subst (λ o. Linked q d (moved_held n o) None) (sym flies) ne)))
+          (keep (Moves d n) (after_move d n s) (moved_spot n (spot_at s.spots d)) same (move-none slots J q.p asked course d n idle) idle refl
+          (subst (λ o. Linked q d (moved_held n o) None) (sym flies) ne)))
           (cases_eq h.p q.p))
 
   pub follow_end : IsFollowing slots (added J (Ends d)) q (ended_own q d (spot_at s.spots d).flight mine) (after_end d s)
@@ -273,10 +290,12 @@ module _ (slots : List Slot) (J : List Entry) (q : Part) (mine : State) (s : Sha
       same : own slots (added J (Ends d)) q.p ≡ own slots J q.p
       same = own-same slots J (Ends d) q.p refl refl
 
-      by_flight : (o : Option Held) → (spot_at s.spots d).flight ≡ o → IsFollowing slots (added J (Ends d)) q (ended_own q d (spot_at s.spots d).flight mine) (after_end d s)
+      by_flight : (o : Option Held) → (spot_at s.spots d).flight ≡ o → IsFollowing slots (added J (Ends d)) q (ended_own q d (spot_at s.spots d).flight mine)
+          (after_end d s)
       by_flight None idle =
           subst (λ o. IsFollowing slots (added J (Ends d)) q (ended_own q d o mine) (after_end d s)) (sym idle)
-          (keep (Ends d) (after_end d s) (ended_spot (spot_at s.spots d)) same (end-none slots J q.p asked course d (idle_none idle)) (idle_none idle) refl (subst (λ o. Linked q d (ended_by (spot_at s.spots d) o).flight None) (sym idle) (subst (λ o. Linked q d o None) (sym idle) tt)))
+          (keep (Ends d) (after_end d s) (ended_spot (spot_at s.spots d)) same (end-none slots J q.p asked course d (idle_none idle)) (idle_none idle) refl
+          (subst (λ o. Linked q d (ended_by (spot_at s.spots d) o).flight None) (sym idle) (subst (λ o. Linked q d o None) (sym idle) tt)))
       by_flight (Some h) flies =
           subst (λ o. IsFollowing slots (added J (Ends d)) q (ended_own q d o mine) (after_end d s)) (sym flies)
           (⊎_elim
@@ -286,11 +305,13 @@ module _ (slots : List Slot) (J : List Entry) (q : Part) (mine : State) (s : Sha
           (λ (ne : h.p ≢ q.p).
           let idle = idle_other h flies ne in
           subst (λ x. IsFollowing slots (added J (Ends d)) q x (after_end d s)) (sym (passed h.p q.p _ mine ne))
-          (keep (Ends d) (after_end d s) (ended_spot (spot_at s.spots d)) same (end-none slots J q.p asked course d idle) idle refl (subst (λ o. Linked q d (ended_by (spot_at s.spots d) o).flight None) (sym flies) tt)))
+          (keep (Ends d) (after_end d s) (ended_spot (spot_at s.spots d)) same (end-none slots J q.p asked course d idle) idle refl
+          (subst (λ o. Linked q d (ended_by (spot_at s.spots d) o).flight None) (sym flies) tt)))
           (cases_eq h.p q.p))
 
 -- a step of no order, that touches no transfer
-pub follow_quiet : (slots : List Slot) (J : List Entry) (st : Step) (q : Part) (mine : State) (s : Shared) → own slots (added J st) q.p ≡ own slots J q.p → flights_of slots (added J st) q.p ≡ flights_of slots J q.p → IsFollowing slots J q mine s → IsFollowing slots (added J st) q mine s
+pub follow_quiet : (slots : List Slot) (J : List Entry) (st : Step) (q : Part) (mine : State) (s : Shared) → own slots (added J st) q.p ≡ own slots J q.p
+    → flights_of slots (added J st) q.p ≡ flights_of slots J q.p → IsFollowing slots J q mine s → IsFollowing slots (added J st) q mine s
 follow_quiet slots J st q mine s o f fol =
     record {
       is_seen = fol.is_seen ∙ sym (ap₂ seen f o);
@@ -298,11 +319,13 @@ follow_quiet slots J st q mine s o f fol =
     }
 
 -- what is told of a part is so of another with its number and window
-pub follow_part : (slots : List Slot) (J : List Entry) (x x' : Part) (st : State) (s : Shared) → x'.p ≡ x.p → x'.base ≡ x.base → IsFollowing slots J x st s → IsFollowing slots J x' st s
+pub follow_part : (slots : List Slot) (J : List Entry) (x x' : Part) (st : State) (s : Shared) → x'.p ≡ x.p → x'.base ≡ x.base → IsFollowing slots J x st s
+    → IsFollowing slots J x' st s
 follow_part slots J x x' st s e b follows =
     record {
       is_seen = follows.is_seen ∙ ap (seen_of slots J) (sym e);
-      linked = λ d. subst (Linked x' d (spot_at s.spots d).flight) (ap (λ y. flights_of slots J y d) (sym e)) (by_parts d (spot_at s.spots d).flight (flights_of slots J x.p d) (follows.linked d));
+      linked = λ d. subst (Linked x' d (spot_at s.spots d).flight) (ap (λ y. flights_of slots J y d) (sym e))
+          (by_parts d (spot_at s.spots d).flight (flights_of slots J x.p d) (follows.linked d));
     }
   where
     by_parts : (d : ℕ) (o : Option Held) (f : Option Flight) → Linked x d o f → Linked x' d o f

@@ -1,7 +1,8 @@
 -- What the turn of a program that is next makes of the machine.
 use Rattle.std.specs.Option.{option_map}
 use Rattle.std.specs.Prelude.{unwrap_or}
-use Rattle.std.proofs.Common.{◌≡◌, ◌≢◌, ℕ, ◌<◌, inl, inr, ◌&&◌, Bool, true, false, List, length, get_or, map, set, Option, Some, None, is_some, cond, refl, sym, ap, ap₂, ◌∙◌, subst, ⊎_elim, arith}
+use Rattle.std.proofs.Common.{◌≡◌, ◌≢◌, ℕ, ◌<◌, inl, inr, ◌&&◌, Bool, true, false, List, length, get_or, map, set, Option, Some, None, is_some, cond, refl, sym}
+use Rattle.std.proofs.Common.{ap, ap₂, ◌∙◌, subst, ⊎_elim, arith}
 use Rattle.std.proofs.Math.Path.{fun_ext}
 use Rattle.std.proofs.lemmas.Bool.{cases_eq, eq-eqb, ne_eqb}
 use Rattle.std.proofs.lemmas.List.{ext_get_or, get_or-map, get_or-set_same, get_or-set_other, length-map, length-set}
@@ -98,7 +99,8 @@ pub record HasAdvanced (answers : ℕ → ℕ → Type 0) (old : Shown) (y : Sta
   pub advance : AdvanceWith answers old (shown y.slots y.reaches y.seats y.shared J room) answer
   pub answered : IsAnswered answers old.slots old.journal J
 
-module _ (service : ℕ → ℕ → Type 0) (slots : List Slot) (reaches : List Reach) (seats : List Seat) (s : Shared) (J : List Entry) (room : ℕ) (a : Agrees slots reaches seats s J) (holds : List (Option Need)) (have : holds ≡ holds_in seats J) (few : calls J < CALL_LIMIT) where
+module _ (service : ℕ → ℕ → Type 0) (slots : List Slot) (reaches : List Reach) (seats : List Seat) (s : Shared) (J : List Entry) (room : ℕ)
+    (a : Agrees slots reaches seats s J) (holds : List (Option Need)) (have : holds ≡ holds_in seats J) (few : calls J < CALL_LIMIT) where
   abbrev m : Shown
   m = shown slots reaches seats s J room
 
@@ -106,7 +108,8 @@ module _ (service : ℕ → ℕ → Type 0) (slots : List Slot) (reaches : List 
   at seats' s' holds' = record { slots = slots; reaches = reaches; seats = seats'; holds = holds'; shared = s' }
 
   -- the states of a step that changes none
-  states_stay : (st : Step) (seats' : List Seat) (s' : Shared) → Agrees slots reaches seats' s' (added J st) → ((p : ℕ) → seen_of slots (added J st) p ≡ seen_of slots J p) → states_in reaches seats' s' (added J st) ≡ states_in reaches seats s J
+  states_stay : (st : Step) (seats' : List Seat) (s' : Shared) → Agrees slots reaches seats' s' (added J st)
+      → ((p : ℕ) → seen_of slots (added J st) p ≡ seen_of slots J p) → states_in reaches seats' s' (added J st) ≡ states_in reaches seats s J
   states_stay st seats' s' agrees same =
       shows slots reaches seats' s' (added J st) agrees
       ∙ ap (λ (f : Slot → State). map f slots) (fun_ext (λ (x : Slot). same x.p))
@@ -164,7 +167,8 @@ module _ (service : ℕ → ℕ → Type 0) (slots : List Slot) (reaches : List 
     abbrev p : ℕ
     p = (seat_at seats i).p
 
-    module _ (turn : next (world_of m) slots J ≡ Some p) (seats' : List Seat) (s' : Shared) (holds' : List (Option Need)) (K : List Entry) (answer : Progress) (t : HasTaken service reaches i seats s holds J seats' s' holds' K answer) (run : IsRunning reaches seats' s') where
+    module _ (turn : next (world_of m) slots J ≡ Some p) (seats' : List Seat) (s' : Shared) (holds' : List (Option Need)) (K : List Entry) (answer : Progress)
+        (t : HasTaken service reaches i seats s holds J seats' s' holds' K answer) (run : IsRunning reaches seats' s') where
       -- what was heard of the service, or 0
       abbrev heard : ℕ
       heard = unwrap_or t.heard 0
@@ -181,7 +185,8 @@ module _ (service : ℕ → ℕ → Type 0) (slots : List Slot) (reaches : List 
           ∙ sym (get_or-map (λ (x : Seat). x.p) seats j no_seat 0 (omega arith)))
 
       -- the holds where a step leaves that of the program so, and every other's
-      holds_more : (st : Step) (h : Option Need) → option_map need_of (hold_by p (last_hold p J) st) ≡ h → ((k : ℕ) → p ≢ k → hold_by k (last_hold k J) st ≡ last_hold k J) → set holds i h ≡ holds_in seats' (added J st)
+      holds_more : (st : Step) (h : Option Need) → option_map need_of (hold_by p (last_hold p J) st) ≡ h
+          → ((k : ℕ) → p ≢ k → hold_by k (last_hold k J) st ≡ last_hold k J) → set holds i h ≡ holds_in seats' (added J st)
       holds_more st h its others =
           ext_get_or None _ _
           (length-set holds i h ∙ ap length have ∙ length-map seats (told_by J) ∙ sym t.turned.count ∙ sym (length-map seats' (told_by (added J st))))
@@ -210,7 +215,9 @@ module _ (service : ℕ → ℕ → Type 0) (slots : List Slot) (reaches : List 
           told_by L x = option_map need_of (last_hold x.p L)
 
       -- in this world its journal is J with a step more
-      by_step : (st : Step) (h : Option Need) (x : Progress) → step_told (seat_at seats' i).p (seat_at seats' i).registers.ran t.ended t.noted ≡ st → hold_left t.ended ≡ h → progress_of (seat_at seats' i).p t.ended ≡ x → HasAdvanced service m (at seats' s' (set holds i h)) (added J st) room x → HasAdvanced service m (at seats' s' holds') K room answer
+      by_step : (st : Step) (h : Option Need) (x : Progress) → step_told (seat_at seats' i).p (seat_at seats' i).registers.ran t.ended t.noted ≡ st
+          → hold_left t.ended ≡ h → progress_of (seat_at seats' i).p t.ended ≡ x → HasAdvanced service m (at seats' s' (set holds i h)) (added J st) room x
+          → HasAdvanced service m (at seats' s' holds') K room answer
       by_step st h x e f g advanced =
           subst (λ L. HasAdvanced service m (at seats' s' holds') L room answer) (sym (t.entered ∙ ap (added J) e))
           (subst (λ hs. HasAdvanced service m (at seats' s' hs) (added J st) room answer) (sym (t.left_held ∙ ap (set holds i) f))
@@ -223,9 +230,11 @@ module _ (service : ℕ → ℕ → Type 0) (slots : List Slot) (reaches : List 
       abbrev noted : Note
       noted = note_of (own slots J p) (truth (lone_world slots J) J p heard)
 
-      outcome_free : hold_of reaches seats s i ≡ None → outcome_at reaches seats s (moment (clock J) heard) 0 i ≡ next_of (own_state reaches seats s 0 i) (answers_at reaches seats (moment (clock J) heard) s i)
+      outcome_free : hold_of reaches seats s i ≡ None → outcome_at reaches seats s (moment (clock J) heard) 0 i ≡ next_of (own_state reaches seats s 0 i)
+          (answers_at reaches seats (moment (clock J) heard) s i)
       unfolding outcome_at
-      outcome_free free = ap (λ o. held_or (seat_at seats i).registers o (next_of (own_state reaches seats s 0 i) (answers_at reaches seats (moment (clock J) heard) s i))) free
+      outcome_free free = ap (λ o. held_or (seat_at seats i).registers o
+          (next_of (own_state reaches seats s 0 i) (answers_at reaches seats (moment (clock J) heard) s i))) free
 
       not_held : hold_of reaches seats s i ≡ None → IsNotHeld t.ended
       not_held free =
@@ -241,18 +250,25 @@ module _ (service : ℕ → ℕ → Type 0) (slots : List Slot) (reaches : List 
       free_turn free =
           by_step (Obeys p noted) None (progress.Ran p)
           (step_free (seat_at seats' i).p (seat_at seats' i).registers.ran t.ended t.noted (not_held free)
-          ∙ ap₂ (λ q n. Obeys q n) (t.turned.numbers i) (told slots reaches seats s J room a i lt heard turn free seats' s' t.ended t.noted t.turned run few same_numbers))
+          ∙ ap₂ (λ q n. Obeys q n) (t.turned.numbers i)
+          (told slots reaches seats s J room a i lt heard turn free seats' s' t.ended t.noted t.turned run few same_numbers))
           (hold_free t.ended (not_held free))
           (progress_free (seat_at seats' i).p t.ended (not_held free) ∙ ap (λ q. progress.Ran q) (t.turned.numbers i))
           (record {
             agrees = agrees_obeyed slots reaches seats s J room a i lt heard turn free seats' s' t.ended t.noted t.turned run few same_numbers;
-            holds_are = holds_more (Obeys p noted) None (ap (λ b. option_map need_of (cond b None (last_hold p J))) (eq-eqb p p refl)) (λ k ne. ap (λ b. cond b None (last_hold k J)) (ne_eqb p k ne));
+            holds_are = holds_more (Obeys p noted) None (ap (λ b. option_map need_of (cond b None (last_hold p J))) (eq-eqb p p refl))
+                (λ k ne. ap (λ b. cond b None (last_hold k J)) (ne_eqb p k ne));
             advance = record {
               heard = heard;
               is_heard = state_heard slots reaches seats s J room a i lt service t.heard t.asked is_on free there;
               advance = shows_obeyed slots reaches seats s J room a i lt heard turn free seats' s' t.ended t.noted t.turned run few same_numbers;
             };
-            answered = inr (Obeys p noted, refl, heard_note service slots J p heard (lone_heard slots reaches seats s J room a i lt service t.heard t.asked is_on free));
+            answered = inr (
+              Obeys p noted,
+              refl,
+              heard_note service slots J p heard
+                  (lone_heard slots reaches seats s J room a i lt service t.heard t.asked is_on free),
+            );
           })
 
       -- it was held
@@ -263,9 +279,15 @@ module _ (service : ℕ → ℕ → Type 0) (slots : List Slot) (reaches : List 
         abbrev st : Step
         st = Holds p (world.hold_of need)
 
-        outcome_held : (n : ℕ) → outcome_at reaches seats s (moment (clock J) heard) n i ≡ record { step = ending.Held need; registers = (seat_at seats i).registers; act = Nothing }
+        outcome_held : (n : ℕ) → outcome_at reaches seats s (moment (clock J) heard) n i ≡ record {
+          step = ending.Held need;
+          registers =
+              (seat_at seats i).registers;
+          act = Nothing;
+        }
         unfolding outcome_at
-        outcome_held n = ap (λ o. held_or (seat_at seats i).registers o (next_of (own_state reaches seats s n i) (answers_at reaches seats (moment (clock J) heard) s i))) held
+        outcome_held n = ap (λ o. held_or (seat_at seats i).registers o
+            (next_of (own_state reaches seats s n i) (answers_at reaches seats (moment (clock J) heard) s i))) held
 
         ended_is : t.ended ≡ ending.Held need
         ended_is = t.turned.step 0 ∙ ap (λ (o : Outcome). o.step) (outcome_held 0)
@@ -273,7 +295,8 @@ module _ (service : ℕ → ℕ → Type 0) (slots : List Slot) (reaches : List 
         same_flight : (d : ℕ) → (spot_at s'.spots d).flight ≡ (spot_at s.spots d).flight
         same_flight d = t.turned.flights 0 d ∙ ap (λ (o : Outcome). (spot_at (after_act q s o.act).spots d).flight) (outcome_held 0)
 
-        tried_held : (n : ℕ) → tried (record { step = ending.Held need; registers = (seat_at seats i).registers; act = Nothing }) (own_state reaches seats s n i) ≡ own_state reaches seats s n i
+        tried_held : (n : ℕ) → tried (record { step = ending.Held need; registers = (seat_at seats i).registers; act = Nothing })
+            (own_state reaches seats s n i) ≡ own_state reaches seats s n i
         unfolding own_state
         tried_held n = refl
 
@@ -306,12 +329,15 @@ module _ (service : ℕ → ℕ → Type 0) (slots : List Slot) (reaches : List 
             record {
               each = λ j within.
                   let inside : j < length seats = (let c = t.turned.count in omega arith) in
-                  follow_part slots (added J st) (part_at reaches seats j) (part_at reaches seats' j) (own_state reaches seats' s' (asked_at seats' (added J st) j) j) s' (t.turned.numbers j) refl
+                  follow_part slots (added J st) (part_at reaches seats j) (part_at reaches seats' j)
+                  (own_state reaches seats' s' (asked_at seats' (added J st) j) j) s' (t.turned.numbers j) refl
                   (subst (λ (x : State). IsFollowing slots (added J st) (part_at reaches seats j) x s')
-                  (sym (ap (λ k. own_state reaches seats' s' (length (answers k (added J st))) j) (t.turned.numbers j) ∙ same_own (asked_at seats (added J st) j) j inside))
+                  (sym (ap (λ k. own_state reaches seats' s' (length (answers k (added J st))) j) (t.turned.numbers j)
+                  ∙ same_own (asked_at seats (added J st) j) j inside))
                   (record {
                     is_seen = (still.each j inside).is_seen;
-                    linked = λ d. subst (λ f. Linked (part_at reaches seats j) d f (flights_of slots (added J st) (seat_at seats j).p d)) (sym (same_flight d)) ((still.each j inside).linked d);
+                    linked = λ d. subst (λ f. Linked (part_at reaches seats j) d f (flights_of slots (added J st) (seat_at seats j).p d)) (sym (same_flight d))
+                        ((still.each j inside).linked d);
                   }));
               busy = λ d. ap is_some (same_flight d) ∙ still.busy d;
             }
@@ -340,7 +366,8 @@ module _ (service : ℕ → ℕ → Type 0) (slots : List Slot) (reaches : List 
         held_turn : HasAdvanced service m (at seats' s' holds') K room answer
         held_turn =
             by_step st (Some need) (progress.Held p need)
-            (ap (λ e. step_told (seat_at seats' i).p (seat_at seats' i).registers.ran e t.noted) ended_is ∙ ap (λ k. Holds k (world.hold_of need)) (t.turned.numbers i))
+            (ap (λ e. step_told (seat_at seats' i).p (seat_at seats' i).registers.ran e t.noted) ended_is
+            ∙ ap (λ k. Holds k (world.hold_of need)) (t.turned.numbers i))
             (ap hold_left ended_is)
             (ap (progress_of (seat_at seats' i).p) ended_is ∙ ap (λ k. progress.Held k need) (t.turned.numbers i))
             (record {

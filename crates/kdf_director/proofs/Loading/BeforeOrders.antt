@@ -1,5 +1,6 @@
 -- A yard that was loaded agrees with a journal that tells nothing.
-use Rattle.std.proofs.Common.{◌≡◌, ◌≢◌, ℕ, zero, suc, ◌<◌, ◌≤◌, List, [], ◌∷◌, length, get_or, map, cond, Option, Some, None, is_some, refl, sym, ap, ◌∙◌, subst, arith}
+use Rattle.std.proofs.Common.{◌≡◌, ◌≢◌, ℕ, zero, suc, ◌<◌, ◌≤◌, List, [], ◌∷◌, length, get_or, map, cond, Option, Some, None, is_some, refl, sym, ap, ◌∙◌}
+use Rattle.std.proofs.Common.{subst, arith}
 use Rattle.std.specs.List.{AllPairs}
 use Rattle.std.specs.Option.{option_map}
 use Rattle.std.proofs.lemmas.Bool.{eq-eqb, ne_eqb}
@@ -35,7 +36,8 @@ use Rattle.kdf_theory.proofs.Course.OwnSteps.{own-nil}
 use Rattle.kdf_theory.proofs.Seen.SeenStates.{seen_nothing}
 
 -- a slot is found by its number
-found_at : (xs : List Slot) (i : ℕ) (d : Slot) → AllPairs (λ (a b : Slot). a.p ≢ b.p) xs → i < length xs → slots.slot_of xs (get_or xs i d).p ≡ Some (get_or xs i d)
+found_at : (xs : List Slot) (i : ℕ) (d : Slot) → AllPairs (λ (a b : Slot). a.p ≢ b.p) xs → i < length xs
+    → slots.slot_of xs (get_or xs i d).p ≡ Some (get_or xs i d)
 found_at [] i d apart lt = absurd (omega arith)
 found_at (x ∷ xs) zero d apart lt = ap (λ b. cond b (Some x) (slots.slot_of xs x.p)) (eq-eqb x.p x.p refl)
 found_at (x ∷ xs) (suc i) d apart lt =

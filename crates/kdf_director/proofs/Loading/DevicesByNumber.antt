@@ -28,11 +28,13 @@ none_one : (o : Option JobDevice) (other : Spot) → o ≡ None → spot_or o ot
 none_one o other is = ap (λ z. spot_or z other) is
 
 -- a number is of the one slot that has it
-pub picked : (xs : List SlotLoad) (i d : ℕ) (e : SlotLoad) (other : Spot) → AllPairs AreApart xs → i < length xs → has (get_or xs i e) d ≡ true → IsOwnSpot (numbered (get_or xs i e).devices d) (first_own xs d other)
+pub picked : (xs : List SlotLoad) (i d : ℕ) (e : SlotLoad) (other : Spot) → AllPairs AreApart xs → i < length xs → has (get_or xs i e) d ≡ true
+    → IsOwnSpot (numbered (get_or xs i e).devices d) (first_own xs d other)
 picked [] i d e other apart lt is = absurd (omega arith)
 picked (x ∷ xs) zero d e other apart lt is = own_one (numbered x.devices d) (first_own xs d other) (found x.devices d ∙ is)
 picked (x ∷ xs) (suc i) d e other apart lt is =
-    subst (IsOwnSpot (numbered (get_or xs i e).devices d)) (sym (none_one (numbered x.devices d) (first_own xs d other) (missing x.devices d (not (has x d) refl))))
+    subst (IsOwnSpot (numbered (get_or xs i e).devices d))
+    (sym (none_one (numbered x.devices d) (first_own xs d other) (missing x.devices d (not (has x d) refl))))
     (picked xs i d e other (λ j k f less inside. apart (suc j) (suc k) f (omega arith) (omega arith)) (omega arith) is)
   where
     not : (b : Bool) → has x d ≡ b → has x d ≡ false
@@ -40,14 +42,16 @@ picked (x ∷ xs) (suc i) d e other apart lt is =
     not true h = cc (sym is ∙ apart 0 (suc i) e (omega arith) lt d h)
 
 -- one that no slot has is of no slot
-pub unpicked : (xs : List SlotLoad) (d : ℕ) (e : SlotLoad) (other : Spot) → ((i : ℕ) → i < length xs → has (get_or xs i e) d ≡ false) → first_own xs d other ≡ other
+pub unpicked : (xs : List SlotLoad) (d : ℕ) (e : SlotLoad) (other : Spot) → ((i : ℕ) → i < length xs → has (get_or xs i e) d ≡ false)
+    → first_own xs d other ≡ other
 unpicked [] d e other none = refl
 unpicked (x ∷ xs) d e other none =
     none_one (numbered x.devices d) (first_own xs d other) (missing x.devices d (none 0 (omega arith)))
     ∙ unpicked xs d e other (λ i lt. none (suc i) (omega arith))
 
 -- each two slots, in either order
-pub apart_both : (xs : List SlotLoad) (i j d : ℕ) (e : SlotLoad) → AllPairs AreApart xs → i < length xs → j < length xs → i ≢ j → has (get_or xs i e) d ≡ true → has (get_or xs j e) d ≡ false
+pub apart_both : (xs : List SlotLoad) (i j d : ℕ) (e : SlotLoad) → AllPairs AreApart xs → i < length xs → j < length xs → i ≢ j → has (get_or xs i e) d ≡ true
+    → has (get_or xs j e) d ≡ false
 apart_both xs i j d e apart li lj ne is =
     ⊎_elim
     (λ (less : i < j). apart i j e less lj d is)

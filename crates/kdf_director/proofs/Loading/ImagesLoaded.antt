@@ -19,21 +19,32 @@ IsOutside windows x l = (x < (window_at windows l.p).base) ⊎ ((window_at windo
 abbrev pub IsWithin : List Window → SlotLoad → Type 0
 IsWithin windows l = (window_at windows l.p).base + length l.words ≤ 32768
 
-pub images_store : (windows : List Window) (cells : Cells) (xs : List SlotLoad) → IsStore cells → ((i : ℕ) → i < length xs → IsWithin windows (get_or xs i no_load)) → IsStore (with_images windows cells xs)
+pub images_store : (windows : List Window) (cells : Cells) (xs : List SlotLoad) → IsStore cells
+    → ((i : ℕ) → i < length xs → IsWithin windows (get_or xs i no_load)) → IsStore (with_images windows cells xs)
 images_store windows cells [] store inside = store
 images_store windows cells (l ∷ xs) store inside =
-    images_store windows (with_words cells (window_at windows l.p).base l.words) xs (words_store cells (window_at windows l.p).base l.words store (inside 0 (omega arith))) (λ i lt. inside (suc i) (omega arith))
+    images_store windows (with_words cells (window_at windows l.p).base l.words) xs
+    (words_store cells (window_at windows l.p).base l.words store (inside 0 (omega arith))) (λ i lt. inside (suc i) (omega arith))
 
-pub images_other : (windows : List Window) (cells : Cells) (xs : List SlotLoad) (x : ℕ) → IsStore cells → ((i : ℕ) → i < length xs → IsWithin windows (get_or xs i no_load)) → ((i : ℕ) → i < length xs → IsOutside windows x (get_or xs i no_load)) → word_there (with_images windows cells xs) x ≡ word_there cells x
+pub images_other : (windows : List Window) (cells : Cells) (xs : List SlotLoad) (x : ℕ) → IsStore cells
+    → ((i : ℕ) → i < length xs → IsWithin windows (get_or xs i no_load)) → ((i : ℕ) → i < length xs → IsOutside windows x (get_or xs i no_load))
+    → word_there (with_images windows cells xs) x ≡ word_there cells x
 images_other windows cells [] x store inside out = refl
 images_other windows cells (l ∷ xs) x store inside out =
-    images_other windows (with_words cells (window_at windows l.p).base l.words) xs x (words_store cells (window_at windows l.p).base l.words store (inside 0 (omega arith))) (λ i lt. inside (suc i) (omega arith)) (λ i lt. out (suc i) (omega arith))
+    images_other windows (with_words cells (window_at windows l.p).base l.words) xs x
+    (words_store cells (window_at windows l.p).base l.words store (inside 0 (omega arith))) (λ i lt. inside (suc i) (omega arith))
+    (λ i lt. out (suc i) (omega arith))
     ∙ words_other cells (window_at windows l.p).base l.words x store (inside 0 (omega arith)) (out 0 (omega arith))
 
-pub images_there : (windows : List Window) (cells : Cells) (xs : List SlotLoad) (i a : ℕ) → i < length xs → IsStore cells → word_there cells ((window_at windows (get_or xs i no_load).p).base + a) ≡ 0 → ((j : ℕ) → j < length xs → IsWithin windows (get_or xs j no_load)) → ((j : ℕ) → j < length xs → j ≢ i → IsOutside windows ((window_at windows (get_or xs i no_load).p).base + a) (get_or xs j no_load)) → word_there (with_images windows cells xs) ((window_at windows (get_or xs i no_load).p).base + a) ≡ get_or (get_or xs i no_load).words a 0
+pub images_there : (windows : List Window) (cells : Cells) (xs : List SlotLoad) (i a : ℕ) → i < length xs → IsStore cells
+    → word_there cells ((window_at windows (get_or xs i no_load).p).base + a) ≡ 0 → ((j : ℕ) → j < length xs → IsWithin windows (get_or xs j no_load))
+    → ((j : ℕ) → j < length xs → j ≢ i → IsOutside windows ((window_at windows (get_or xs i no_load).p).base + a) (get_or xs j no_load))
+    → word_there (with_images windows cells xs) ((window_at windows (get_or xs i no_load).p).base + a) ≡ get_or (get_or xs i no_load).words a 0
 images_there windows cells [] i a lt store nought inside out = absurd (omega arith)
 images_there windows cells (l ∷ xs) zero a lt store nought inside out =
-    images_other windows (with_words cells (window_at windows l.p).base l.words) xs ((window_at windows l.p).base + a) (words_store cells (window_at windows l.p).base l.words store (inside 0 (omega arith))) (λ j less. inside (suc j) (omega arith)) (λ j less. out (suc j) (omega arith) (λ e. absurd (omega arith)))
+    images_other windows (with_words cells (window_at windows l.p).base l.words) xs ((window_at windows l.p).base + a)
+    (words_store cells (window_at windows l.p).base l.words store (inside 0 (omega arith))) (λ j less. inside (suc j) (omega arith))
+    (λ j less. out (suc j) (omega arith) (λ e. absurd (omega arith)))
     ∙ ⊎_elim
     (λ (low : a < length l.words). words_there cells (window_at windows l.p).base l.words a store (inside 0 (omega arith)) low)
     (λ (past : length l.words ≤ a).
@@ -41,8 +52,10 @@ images_there windows cells (l ∷ xs) zero a lt store nought inside out =
     ∙ nought ∙ sym (get_or_past l.words a 0 past))
     (cases_lt a (length l.words))
 images_there windows cells (l ∷ xs) (suc i) a lt store nought inside out =
-    images_there windows (with_words cells (window_at windows l.p).base l.words) xs i a (omega arith) (words_store cells (window_at windows l.p).base l.words store (inside 0 (omega arith)))
-    (words_other cells (window_at windows l.p).base l.words ((window_at windows (get_or xs i no_load).p).base + a) store (inside 0 (omega arith)) (out 0 (omega arith) (λ e. absurd (omega arith))) ∙ nought)
+    images_there windows (with_words cells (window_at windows l.p).base l.words) xs i a (omega arith)
+    (words_store cells (window_at windows l.p).base l.words store (inside 0 (omega arith)))
+    (words_other cells (window_at windows l.p).base l.words ((window_at windows (get_or xs i no_load).p).base + a) store (inside 0 (omega arith))
+    (out 0 (omega arith) (λ e. absurd (omega arith))) ∙ nought)
     (λ j less. inside (suc j) (omega arith))
     (λ j less ne. out (suc j) (omega arith) (λ e. ne (omega arith)))
 

@@ -1,5 +1,6 @@
 -- How a yard stands that was loaded.
-use Rattle.std.proofs.Common.{◌≡◌, ◌≢◌, ◌||◌, inl, inr, ℕ, ◌+◌, ◌-◌, ◌/◌, ◌%◌, ◌<◌, ◌≤◌, Bool, true, false, cond, List, [], ◌∷◌, length, get_or, map, replicate, Option, Some, None, is_some, refl, sym, ap, ap₂, ◌∙◌, subst, ⊎_elim, arith}
+use Rattle.std.proofs.Common.{◌≡◌, ◌≢◌, ◌||◌, inl, inr, ℕ, ◌+◌, ◌-◌, ◌/◌, ◌%◌, ◌<◌, ◌≤◌, Bool, true, false, cond, List, [], ◌∷◌, length, get_or, map, replicate}
+use Rattle.std.proofs.Common.{Option, Some, None, is_some, refl, sym, ap, ap₂, ◌∙◌, subst, ⊎_elim, arith}
 use Rattle.std.specs.List.{All, AllPairs, range_with_len}
 use Rattle.std.proofs.lemmas.Bool.{cases_eq, cases_lt}
 use Rattle.std.proofs.lemmas.List.{get_or_default, get_or_past, get_or-map, get_or-replicate, length-map, length-append, length-replicate, ext_get_or}
@@ -74,20 +75,23 @@ unfolding unclaimed
 many_marks = length-replicate 16 false
 
 -- the window of each slot
-pub windows_fit : (xs : List SlotLoad) (windows : List Window) (i : ℕ) → AreLoads xs → windows ≡ windows_from 1024 (sizes_of xs) → i < length xs → IsWindow (window_at windows (get_or xs i no_load).p) (get_or xs i no_load).size
+pub windows_fit : (xs : List SlotLoad) (windows : List Window) (i : ℕ) → AreLoads xs → windows ≡ windows_from 1024 (sizes_of xs) → i < length xs
+    → IsWindow (window_at windows (get_or xs i no_load).p) (get_or xs i no_load).size
 windows_fit xs windows i are windows_are lt =
     let p : ℕ = (get_or xs i no_load).p in
     subst (λ w. IsWindow (window_at w p) (get_or xs i no_load).size) (sym windows_are)
     (subst (IsWindow (window_at (windows_from 1024 (sizes_of xs)) p)) (size_is xs i no_load are.rising lt)
     (window_of xs p (are.each i no_load lt).number (λ j e less. (are.each j e less).groups)))
 
-windows_inside : (xs : List SlotLoad) (windows : List Window) (i : ℕ) → AreLoads xs → windows ≡ windows_from 1024 (sizes_of xs) → All IsInStore windows → i < length xs → (window_at windows (get_or xs i no_load).p).base + (window_at windows (get_or xs i no_load).p).size ≤ 32768
+windows_inside : (xs : List SlotLoad) (windows : List Window) (i : ℕ) → AreLoads xs → windows ≡ windows_from 1024 (sizes_of xs) → All IsInStore windows
+    → i < length xs → (window_at windows (get_or xs i no_load).p).base + (window_at windows (get_or xs i no_load).p).size ≤ 32768
 windows_inside xs windows i are windows_are inside lt =
     let n = (are.each i no_load lt).number in
     let f : length windows ≡ 4 = ap length windows_are in
     (inside (get_or xs i no_load).p no_window (omega arith)).to
 
-words_within : (xs : List SlotLoad) (windows : List Window) (i : ℕ) → AreLoads xs → windows ≡ windows_from 1024 (sizes_of xs) → All IsInStore windows → i < length xs → IsWithin windows (get_or xs i no_load)
+words_within : (xs : List SlotLoad) (windows : List Window) (i : ℕ) → AreLoads xs → windows ≡ windows_from 1024 (sizes_of xs) → All IsInStore windows
+    → i < length xs → IsWithin windows (get_or xs i no_load)
 words_within xs windows i are windows_are inside lt =
     let a = windows_inside xs windows i are windows_are inside lt in
     let b = (windows_fit xs windows i are windows_are lt).size_is in
@@ -95,12 +99,15 @@ words_within xs windows i are windows_are inside lt =
     omega arith
 
 -- the words of each slot lie in the store
-pub all_within : (ls : List Loaded) (windows : List Window) → AreLoads (map loaded ls) → windows ≡ windows_from 1024 (sizes_of (map loaded ls)) → All IsInStore windows → All (λ (l : Loaded). (window_at windows l.p).base + length l.words.items ≤ 32768) ls
+pub all_within : (ls : List Loaded) (windows : List Window) → AreLoads (map loaded ls) → windows ≡ windows_from 1024 (sizes_of (map loaded ls))
+    → All IsInStore windows → All (λ (l : Loaded). (window_at windows l.p).base + length l.words.items ≤ 32768) ls
 all_within ls windows are windows_are inside i d lt =
     subst (IsWithin windows) (get_or-map loaded ls i d no_load lt)
     (words_within (map loaded ls) windows i are windows_are inside (let n = length-map ls loaded in omega arith))
 
-module _ (xs : List SlotLoad) (are : AreLoads xs) (windows : List Window) (windows_are : windows ≡ windows_from 1024 (sizes_of xs)) (inside : All IsInStore windows) (before : AllPairs IsBefore windows) (cells : Cells) (cells_are : cells ≡ with_images windows zero_cells xs) (spots : List Spot) (spots_are : spots ≡ by_number (idle_spot xs)) where
+module _ (xs : List SlotLoad) (are : AreLoads xs) (windows : List Window) (windows_are : windows ≡ windows_from 1024 (sizes_of xs))
+    (inside : All IsInStore windows) (before : AllPairs IsBefore windows) (cells : Cells) (cells_are : cells ≡ with_images windows zero_cells xs)
+    (spots : List Spot) (spots_are : spots ≡ by_number (idle_spot xs)) where
   abbrev reaches : List Reach
   reaches = map (reach_in windows) xs
 
@@ -178,7 +185,8 @@ module _ (xs : List SlotLoad) (are : AreLoads xs) (windows : List Window) (windo
   pub idle_is : (d : ℕ) → (spot_at s.spots d).flight ≡ None
   idle_is d =
       ⊎_elim
-      (λ (lt : d < 16). ap (λ (x : Spot). x.flight) (spot_is d lt) ∙ idle_flight xs d (pool_spot (lent_kind (pool_in xs) d)) (pool_flight (lent_kind (pool_in xs) d)))
+      (λ (lt : d < 16). ap (λ (x : Spot). x.flight) (spot_is d lt)
+      ∙ idle_flight xs d (pool_spot (lent_kind (pool_in xs) d)) (pool_flight (lent_kind (pool_in xs) d)))
       (λ (past : 16 ≤ d). ap (λ (x : Spot). x.flight) (spot_past d past))
       (cases_lt d 16)
 
@@ -334,7 +342,8 @@ module _ (xs : List SlotLoad) (are : AreLoads xs) (windows : List Window) (windo
         common = λ i j lt lt'.
             let li : i < length xs = let m = many in omega arith in
             let lj : j < length xs = let m = many in omega arith in
-            ap (λ (r : Reach). r.pool) (reach_is i li) ∙ ap (λ ps. by_number (lent_kind ps)) (same_pool i j li lj) ∙ sym (ap (λ (r : Reach). r.pool) (reach_is j lj));
+            ap (λ (r : Reach). r.pool) (reach_is i li) ∙ ap (λ ps. by_number (lent_kind ps)) (same_pool i j li lj)
+            ∙ sym (ap (λ (r : Reach). r.pool) (reach_is j lj));
         kept = λ i lt.
             let li : i < length xs = let m = many in omega arith in
             subst (λ q. IsKept q s) (sym (part_is i li)) (kept_first i li);
@@ -442,14 +451,26 @@ first_nobodys (x ∷ xs) d = first_nobodys xs d
 -- what is loaded is what the slots reach
 reach_same : (windows : List Window) (l : Loaded) → reach_of windows l ≡ reach_in windows (loaded l)
 reach_same windows l =
-    ap (λ ns. (let r : Reach = record { base = (window_at windows l.p).base; size = (window_at windows l.p).size; devices = ns; pool = by_number (lent_kind l.pool.items); served = l.served } in r))
+    ap (λ ns. (let r : Reach = record {
+      base = (window_at windows l.p).base;
+      size = (window_at windows l.p).size;
+      devices = ns;
+      pool =
+          by_number (lent_kind l.pool.items);
+      served = l.served;
+    } in r))
     (sym (map_twice (λ (x : JobDevice). x.d) shown_device l.devices.items))
 
 reaches_same : (windows : List Window) (ls : List Loaded) → reaches_in windows ls ≡ map (reach_in windows) (map loaded ls)
 reaches_same windows [] = refl
 reaches_same windows (l ∷ ls) = ap₂ (λ r rs. r ∷ rs) (reach_same windows l) (reaches_same windows ls)
 
-module _ (windows : List Window) (slots : List Loaded) (store : Cells) (programs : List Program) (places : List Place) (are : AreLoads (map loaded slots)) (windows_are : windows ≡ windows_from 1024 (sizes_of (map loaded slots))) (inside : All IsInStore windows) (before : AllPairs IsBefore windows) (store_is : store ≡ with_images windows zero_cells (map loaded slots)) (programs_made : seats_in programs ≡ map (λ (l : Loaded). first_seat (loaded l)) slots) (none_held : map (λ (x : Program). x.hold) programs ≡ map (λ (l : Loaded). None) slots) (spots_are : map spot_of places ≡ by_number (idle_spot (map loaded slots))) (dry : AreDry places) where
+module _ (windows : List Window) (slots : List Loaded) (store : Cells) (programs : List Program) (places : List Place) (are : AreLoads (map loaded slots))
+    (windows_are : windows ≡ windows_from 1024 (sizes_of (map loaded slots))) (inside : All IsInStore windows) (before : AllPairs IsBefore windows)
+    (store_is : store ≡ with_images windows zero_cells (map loaded slots))
+    (programs_made : seats_in programs ≡ map (λ (l : Loaded). first_seat (loaded l)) slots)
+    (none_held : map (λ (x : Program). x.hold) programs ≡ map (λ (l : Loaded). None) slots)
+    (spots_are : map spot_of places ≡ by_number (idle_spot (map loaded slots))) (dry : AreDry places) where
   abbrev loads : List SlotLoad
   loads = map loaded slots
 

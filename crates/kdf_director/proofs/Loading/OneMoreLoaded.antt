@@ -16,7 +16,8 @@ drop_at xs i x lt here =
     ∙ ap₂ (λ y n. y ∷ drop n xs) (sym here) (let e : suc i ≡ i + 1 = omega arith in e)
 
 -- one more of a list that is made element by element
-pub take_more : {X Y Z : Type 0} (f : X → Z) (g : Y → Z) (xs ys : List X) (x : X) (all : List Y) (i : ℕ) (y : Y) → i < length all → y ≡ get_or all i y → ys ≡ xs ++ x ∷ [] → f x ≡ g y → map f xs ≡ map g (take i all) → map f ys ≡ map g (take (i + 1) all)
+pub take_more : {X Y Z : Type 0} (f : X → Z) (g : Y → Z) (xs ys : List X) (x : X) (all : List Y) (i : ℕ) (y : Y) → i < length all → y ≡ get_or all i y
+    → ys ≡ xs ++ x ∷ [] → f x ≡ g y → map f xs ≡ map g (take i all) → map f ys ≡ map g (take (i + 1) all)
 take_more f g xs ys x all i y lt here push is before =
     ap (map f) push ∙ map_push f xs x ∙ ap₂ (λ a b. a ++ b ∷ []) before (is ∙ ap g here) ∙ sym (map_more g all i y lt)
 
@@ -24,7 +25,9 @@ take_more f g xs ys x all i y lt here push is before =
 abbrev rest : List SlotJob → List Image → ℕ → List SlotLoad
 rest jobs images i = loads (map shown_slot (drop i jobs)) (map (λ (x : Image). x.words.items) (drop i images))
 
-pub loads_more : (jobs : List SlotJob) (images : List Image) (i : ℕ) (s : SlotJob) (image : Image) (before after : List Loaded) (x : Loaded) (all : List SlotLoad) → i < length jobs → i < length images → s ≡ get_or jobs i s → image ≡ get_or images i image → after ≡ before ++ x ∷ [] → loaded x ≡ load_of (shown_slot s) image.words.items → map loaded before ++ rest jobs images i ≡ all → map loaded after ++ rest jobs images (i + 1) ≡ all
+pub loads_more : (jobs : List SlotJob) (images : List Image) (i : ℕ) (s : SlotJob) (image : Image) (before after : List Loaded) (x : Loaded)
+    (all : List SlotLoad) → i < length jobs → i < length images → s ≡ get_or jobs i s → image ≡ get_or images i image → after ≡ before ++ x ∷ []
+    → loaded x ≡ load_of (shown_slot s) image.words.items → map loaded before ++ rest jobs images i ≡ all → map loaded after ++ rest jobs images (i + 1) ≡ all
 loads_more jobs images i s image before after x all lt lt' here there push is so =
     ap (λ ys. map loaded ys ++ rest jobs images (i + 1)) push
     ∙ ap (λ ys. ys ++ rest jobs images (i + 1)) (map_push loaded before x)

@@ -1,5 +1,6 @@
 -- The sizes of the slots that are loaded, and their windows.
-use Rattle.std.proofs.Common.{◌≡◌, ◌≢◌, ℕ, zero, suc, ◌+◌, ◌%◌, ◌<◌, ◌≤◌, Bool, true, false, cond, eqb, List, [], ◌∷◌, length, get_or, refl, ap, ap₂, ◌∙◌, subst, ⊎_elim, arith}
+use Rattle.std.proofs.Common.{◌≡◌, ◌≢◌, ℕ, zero, suc, ◌+◌, ◌%◌, ◌<◌, ◌≤◌, Bool, true, false, cond, eqb, List, [], ◌∷◌, length, get_or, refl, ap, ap₂, ◌∙◌}
+use Rattle.std.proofs.Common.{subst, ⊎_elim, arith}
 use Rattle.std.specs.Prelude.{sum, sum_by, ◌&&◌}
 use Rattle.std.specs.List.{All, AllPairs}
 use Rattle.std.proofs.lemmas.Bool.{cases_eq, eq-eqb, le-leb, ne_eqb}
@@ -52,7 +53,8 @@ once q size =
     (cases_eq q 1))
     (cases_eq q 0)
   where
-    either : (b : Bool) (size : ℕ) → cond (eqb q 0) size 0 ≡ 0 → cond (eqb q 1) size 0 ≡ 0 → cond (eqb q 2) size 0 ≡ 0 → cond (eqb q 0) size 0 + cond (eqb q 1) size 0 + cond (eqb q 2) size 0 + cond b size 0 ≤ size
+    either : (b : Bool) (size : ℕ) → cond (eqb q 0) size 0 ≡ 0 → cond (eqb q 1) size 0 ≡ 0 → cond (eqb q 2) size 0 ≡ 0
+        → cond (eqb q 0) size 0 + cond (eqb q 1) size 0 + cond (eqb q 2) size 0 + cond b size 0 ≤ size
     either true size a b c = let e : cond (eqb q 0) size 0 + cond (eqb q 1) size 0 + cond (eqb q 2) size 0 + size ≤ size = omega arith in e
     either false size a b c = let e : cond (eqb q 0) size 0 + cond (eqb q 1) size 0 + cond (eqb q 2) size 0 + 0 ≤ size = omega arith in e
 
@@ -70,7 +72,8 @@ total_is (x ∷ xs) =
     let b = joined (eqb x.p 1) x.size (size_at xs 1) in
     let c = joined (eqb x.p 2) x.size (size_at xs 2) in
     let d = joined (eqb x.p 3) x.size (size_at xs 3) in
-    let e : cond (eqb x.p 0) x.size (size_at xs 0) + cond (eqb x.p 1) x.size (size_at xs 1) + cond (eqb x.p 2) x.size (size_at xs 2) + cond (eqb x.p 3) x.size (size_at xs 3) ≤ sum_by (λ (l : SlotLoad). l.size) (x ∷ xs) = omega arith in
+    let e : cond (eqb x.p 0) x.size (size_at xs 0) + cond (eqb x.p 1) x.size (size_at xs 1) + cond (eqb x.p 2) x.size (size_at xs 2) + cond (eqb x.p 3) x.size
+    (size_at xs 3) ≤ sum_by (λ (l : SlotLoad). l.size) (x ∷ xs) = omega arith in
     e
 
 -- whole groups
@@ -80,14 +83,17 @@ whole_or false m n is rest = rest
 
 pub whole_at : (xs : List SlotLoad) (p : ℕ) → All (λ (l : SlotLoad). l.size % 32 ≡ 0) xs → size_at xs p % 32 ≡ 0
 whole_at [] p whole = refl
-whole_at (x ∷ xs) p whole = whole_or (eqb x.p p) x.size (size_at xs p) (All-head (λ (l : SlotLoad). l.size % 32 ≡ 0) x xs whole) (whole_at xs p (All-tail (λ (l : SlotLoad). l.size % 32 ≡ 0) x xs whole))
+whole_at (x ∷ xs) p whole = whole_or (eqb x.p p) x.size (size_at xs p) (All-head (λ (l : SlotLoad). l.size % 32 ≡ 0) x xs whole)
+    (whole_at xs p (All-tail (λ (l : SlotLoad). l.size % 32 ≡ 0) x xs whole))
 
 abbrev IsWhole : ℕ → Type 0
 IsWhole size = eqb (size % 32) 0 ≡ true
 
 -- sizes that are whole groups and fit have windows
-pub sizes_fit : (xs : List SlotLoad) → All (λ (l : SlotLoad). l.size % 32 ≡ 0) xs → sum_by (λ (l : SlotLoad). l.size) xs ≤ 31744 → have_windows (sizes_of xs) ≡ true
-sizes_fit xs whole fits = fit (size_at xs 0) (size_at xs 1) (size_at xs 2) (size_at xs 3) (whole_at xs 0 whole) (whole_at xs 1 whole) (whole_at xs 2 whole) (whole_at xs 3 whole) (let e = total_is xs in omega arith)
+pub sizes_fit : (xs : List SlotLoad) → All (λ (l : SlotLoad). l.size % 32 ≡ 0) xs → sum_by (λ (l : SlotLoad). l.size) xs ≤ 31744
+    → have_windows (sizes_of xs) ≡ true
+sizes_fit xs whole fits = fit (size_at xs 0) (size_at xs 1) (size_at xs 2) (size_at xs 3) (whole_at xs 0 whole) (whole_at xs 1 whole) (whole_at xs 2 whole)
+    (whole_at xs 3 whole) (let e = total_is xs in omega arith)
   where
     fit : (a b c d : ℕ) → a % 32 ≡ 0 → b % 32 ≡ 0 → c % 32 ≡ 0 → d % 32 ≡ 0 → a + b + c + d ≤ 31744 → have_windows (a ∷ b ∷ c ∷ d ∷ []) ≡ true
     fit a b c d wa wb wc wd le =
@@ -115,7 +121,8 @@ pub record IsWindow (w : Window) (size : ℕ) : Type 0 where
   pub at_group : w.base % 32 ≡ 0
   pub size_is : w.size ≡ size
 
-window_is : (p a b c d : ℕ) → p < 4 → a % 32 ≡ 0 → b % 32 ≡ 0 → c % 32 ≡ 0 → IsWindow (window_at (windows_from 1024 (a ∷ b ∷ c ∷ d ∷ [])) p) (get_or (a ∷ b ∷ c ∷ d ∷ []) p 0)
+window_is : (p a b c d : ℕ) → p < 4 → a % 32 ≡ 0 → b % 32 ≡ 0 → c % 32 ≡ 0 → IsWindow (window_at (windows_from 1024 (a ∷ b ∷ c ∷ d ∷ [])) p)
+    (get_or (a ∷ b ∷ c ∷ d ∷ []) p 0)
 window_is zero a b c d lt wa wb wc = record { at_group = refl; size_is = refl }
 window_is (suc zero) a b c d lt wa wb wc = record { at_group = (let e : (1024 + a) % 32 ≡ 0 = omega arith in e); size_is = refl }
 window_is (suc (suc zero)) a b c d lt wa wb wc = record { at_group = (let e : (1024 + a + b) % 32 ≡ 0 = omega arith in e); size_is = refl }
@@ -129,7 +136,8 @@ four_at f (suc (suc zero)) lt = refl
 four_at f (suc (suc (suc zero))) lt = refl
 four_at f (suc (suc (suc (suc p)))) lt = absurd (omega arith)
 
-pub window_of : (xs : List SlotLoad) (p : ℕ) → p < 4 → All (λ (l : SlotLoad). l.size % 32 ≡ 0) xs → IsWindow (window_at (windows_from 1024 (sizes_of xs)) p) (size_at xs p)
+pub window_of : (xs : List SlotLoad) (p : ℕ) → p < 4 → All (λ (l : SlotLoad). l.size % 32 ≡ 0) xs
+    → IsWindow (window_at (windows_from 1024 (sizes_of xs)) p) (size_at xs p)
 window_of xs p lt whole =
     subst (IsWindow (window_at (windows_from 1024 (sizes_of xs)) p)) (four_at (size_at xs) p lt)
     (window_is p (size_at xs 0) (size_at xs 1) (size_at xs 2) (size_at xs 3) lt (whole_at xs 0 whole) (whole_at xs 1 whole) (whole_at xs 2 whole))

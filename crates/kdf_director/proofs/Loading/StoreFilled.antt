@@ -1,5 +1,6 @@
 -- A store whose groups are all here, and the words that are written into it.
-use Rattle.std.proofs.Common.{◌≡◌, ◌≢◌, ◌⊎◌, inl, inr, ℕ, zero, suc, ◌+◌, ◌/◌, ◌%◌, ◌<◌, ◌≤◌, false, cond, eqb, List, [], ◌∷◌, length, get_or, set, replicate, Option, Some, None, is_none, Result, Ok, Err, IfOk, refl, sym, ap, ◌∙◌, subst, ⊎_elim, arith}
+use Rattle.std.proofs.Common.{◌≡◌, ◌≢◌, ◌⊎◌, inl, inr, ℕ, zero, suc, ◌+◌, ◌/◌, ◌%◌, ◌<◌, ◌≤◌, false, cond, eqb, List, [], ◌∷◌, length, get_or, set, replicate}
+use Rattle.std.proofs.Common.{Option, Some, None, is_none, Result, Ok, Err, IfOk, refl, sym, ap, ◌∙◌, subst, ⊎_elim, arith}
 use Rattle.std.proofs.lemmas.Bool.{cases_eq, eq-eqb, ne_eqb}
 use Rattle.std.proofs.lemmas.List.{get_or-replicate, length-replicate, get_or-set_same, get_or-set_other, length-set}
 use Rattle.kdf_lockout.specs.Groups.{Cells, Lent, group_at, is_out, with_word, words_in}
@@ -117,9 +118,11 @@ module _ (cells : Cells) (place w : ℕ) (store : IsStore cells) (inside : place
 -- the words lie from their place on, and the others are as they were
 pub words_store : (cells : Cells) (place : ℕ) (words : List ℕ) → IsStore cells → place + length words ≤ 32768 → IsStore (with_words cells place words)
 words_store cells place [] store inside = store
-words_store cells place (w ∷ words) store inside = words_store (kept_word cells place w) (place + 1) words (kept_store cells place w store (omega arith)) (omega arith)
+words_store cells place (w ∷ words) store inside = words_store (kept_word cells place w) (place + 1) words (kept_store cells place w store (omega arith))
+    (omega arith)
 
-pub words_other : (cells : Cells) (place : ℕ) (words : List ℕ) (x : ℕ) → IsStore cells → place + length words ≤ 32768 → (x < place) ⊎ (place + length words ≤ x) → word_there (with_words cells place words) x ≡ word_there cells x
+pub words_other : (cells : Cells) (place : ℕ) (words : List ℕ) (x : ℕ) → IsStore cells → place + length words ≤ 32768
+    → (x < place) ⊎ (place + length words ≤ x) → word_there (with_words cells place words) x ≡ word_there cells x
 words_other cells place [] x store inside out = refl
 words_other cells place (w ∷ words) x store inside out =
     words_other (kept_word cells place w) (place + 1) words x (kept_store cells place w store (omega arith)) (omega arith) (beyond out)
@@ -134,7 +137,8 @@ words_other cells place (w ∷ words) x store inside out =
     apart (inl low) = λ e. absurd (omega arith)
     apart (inr high) = λ e. absurd (omega arith)
 
-pub words_there : (cells : Cells) (place : ℕ) (words : List ℕ) (a : ℕ) → IsStore cells → place + length words ≤ 32768 → a < length words → word_there (with_words cells place words) (place + a) ≡ get_or words a 0
+pub words_there : (cells : Cells) (place : ℕ) (words : List ℕ) (a : ℕ) → IsStore cells → place + length words ≤ 32768 → a < length words
+    → word_there (with_words cells place words) (place + a) ≡ get_or words a 0
 words_there cells place [] a store inside lt = absurd (omega arith)
 words_there cells place (w ∷ words) zero store inside lt =
     words_other (kept_word cells place w) (place + 1) words (place + 0) (kept_store cells place w store (omega arith)) (omega arith) (inl (omega arith))

@@ -1,7 +1,8 @@
 -- The first that passes a test, of numbers in their order, and whether one of the four slots does.
 use Rattle.std.specs.Prelude.{find}
 use Rattle.std.specs.List.{list_any, range_with_len}
-use Rattle.std.proofs.Common.{◌≡◌, ◌≢◌, ℕ, zero, suc, ◌+◌, ◌<◌, ◌≤◌, Bool, true, false, ◌||◌, List, [], ◌∷◌, length, get_or, Some, None, cond, refl, sym, ap, ◌∙◌, ⊎_elim, arith}
+use Rattle.std.proofs.Common.{◌≡◌, ◌≢◌, ℕ, zero, suc, ◌+◌, ◌<◌, ◌≤◌, Bool, true, false, ◌||◌, List, [], ◌∷◌, length, get_or, Some, None, cond, refl, sym, ap}
+use Rattle.std.proofs.Common.{◌∙◌, ⊎_elim, arith}
 use Rattle.std.proofs.lemmas.Bool.{cases_Bool, cases_eq, false≢true, or_parts}
 use Rattle.std.proofs.lemmas.List.Folds.{list_any_at}
 use Rattle.kdf_journal.specs.Counts.{slot_numbers}
@@ -86,7 +87,8 @@ any_four f (suc (suc (suc zero))) lt is = list_any_at f slot_numbers 3 0 (omega 
 any_four f (suc (suc (suc (suc p)))) lt is = absurd (omega arith)
 
 -- those that pass stand in a list that rises
-module _ (f : ℕ → Bool) (ps : List ℕ) (up : (i j : ℕ) → i < j → j < length ps → get_or ps i 0 < get_or ps j 0) (four : (i : ℕ) → i < length ps → get_or ps i 0 < 4) (only : (k : ℕ) → f k ≡ true → (i : ℕ) × (i < length ps) × (get_or ps i 0 ≡ k)) where
+module _ (f : ℕ → Bool) (ps : List ℕ) (up : (i j : ℕ) → i < j → j < length ps → get_or ps i 0 < get_or ps j 0) (four : (i : ℕ) → i < length ps
+    → get_or ps i 0 < 4) (only : (k : ℕ) → f k ≡ true → (i : ℕ) × (i < length ps) × (get_or ps i 0 ≡ k)) where
   fails_all : ((i : ℕ) → i < length ps → f (get_or ps i 0) ≡ false) → (k : ℕ) → f k ≡ false
   fails_all none k =
       ⊎_elim

@@ -1,6 +1,7 @@
 -- Words move, and a transfer ends: the groups, and what is shown of the programs.
 use Rattle.std.specs.Option.{option_map}
-use Rattle.std.proofs.Common.{◌≡◌, ◌≢◌, ℕ, ◌+◌, ◌<◌, ◌≤◌, ◌⊎◌, Bool, true, false, List, length, get_or, set, take, drop, Option, Some, None, cond, refl, sym, ap, ap₂, ◌∙◌, subst, ⊎_elim, arith}
+use Rattle.std.proofs.Common.{◌≡◌, ◌≢◌, ℕ, ◌+◌, ◌<◌, ◌≤◌, ◌⊎◌, Bool, true, false, List, length, get_or, set, take, drop, Option, Some, None, cond, refl, sym}
+use Rattle.std.proofs.Common.{ap, ap₂, ◌∙◌, subst, ⊎_elim, arith}
 use Rattle.std.proofs.lemmas.Bool.{cases_eq}
 use Rattle.std.proofs.lemmas.List.{get_or-set_same, get_or-set_other, length-set, set-set, ext_get_or}
 use Rattle.kdf_lockout.specs.Groups.{Lent, AreFull}
@@ -35,7 +36,8 @@ full-by true ms None l' is full = cc
 full-by true ms (Some l) l' is full = let e : put_words ms l ≡ l' = cc in subst AreFull e (full-put ms l (full l refl))
 full-by false ms o l' is full = full l' is
 
-inside-by : (b : Bool) (ms : List (ℕ × ℕ)) (o : Option Lent) (l' : Lent) (n : ℕ) → by b ms o ≡ Some l' → ((l : Lent) → o ≡ Some l → l.first + length l.groups ≤ n) → l'.first + length l'.groups ≤ n
+inside-by : (b : Bool) (ms : List (ℕ × ℕ)) (o : Option Lent) (l' : Lent) (n : ℕ) → by b ms o ≡ Some l'
+    → ((l : Lent) → o ≡ Some l → l.first + length l.groups ≤ n) → l'.first + length l'.groups ≤ n
 inside-by true ms None l' n is fits = cc
 inside-by true ms (Some l) l' n is fits =
     let e : put_words ms l ≡ l' = cc in
@@ -44,7 +46,8 @@ inside-by true ms (Some l) l' n is fits =
 inside-by false ms o l' n is fits = fits l' is
 
 -- words move in the flight on device d of program q
-module _ (s : Shared) (q : Part) (d : ℕ) (h : Held) (n : ℕ) (sound : IsSound s) (small : d < device_count) (flies : (spot_at s.spots d).flight ≡ Some h) (is_of : IsFlightOf q d (spot_at s.spots d) h) where
+module _ (s : Shared) (q : Part) (d : ℕ) (h : Held) (n : ℕ) (sound : IsSound s) (small : d < device_count) (flies : (spot_at s.spots d).flight ≡ Some h)
+    (is_of : IsFlightOf q d (spot_at s.spots d) h) where
   abbrev lease : Option Lent
   lease = lease_by n h.motion
 
@@ -77,12 +80,14 @@ module _ (s : Shared) (q : Part) (d : ℕ) (h : Held) (n : ℕ) (sound : IsSound
         whole = sound.whole;
         full = λ e l is. ⊎_elim
             (λ (same : e ≡ d).
-            full-by (is_input h.motion.order) (take n (drop h.motion.moved (moves_of h.motion))) h.motion.lease l (sym at_d ∙ (ap (leases_of (after_move d n s).spots) (sym same) ∙ is)) (λ k had. sound.full d k (was ∙ had)))
+            full-by (is_input h.motion.order) (take n (drop h.motion.moved (moves_of h.motion))) h.motion.lease l
+            (sym at_d ∙ (ap (leases_of (after_move d n s).spots) (sym same) ∙ is)) (λ k had. sound.full d k (was ∙ had)))
             (λ (ne : e ≢ d). sound.full e l (sym (other e ne) ∙ is))
             (cases_eq e d);
         inside = λ e l is. ⊎_elim
             (λ (same : e ≡ d).
-            inside-by (is_input h.motion.order) (take n (drop h.motion.moved (moves_of h.motion))) h.motion.lease l (length s.cells) (sym at_d ∙ (ap (leases_of (after_move d n s).spots) (sym same) ∙ is)) (λ k had. sound.inside d k (was ∙ had)))
+            inside-by (is_input h.motion.order) (take n (drop h.motion.moved (moves_of h.motion))) h.motion.lease l (length s.cells)
+            (sym at_d ∙ (ap (leases_of (after_move d n s).spots) (sym same) ∙ is)) (λ k had. sound.inside d k (was ∙ had)))
             (λ (ne : e ≢ d). sound.inside e l (sym (other e ne) ∙ is))
             (cases_eq e d);
         out = λ e g has. sound.out e g (sym (same_has e g) ∙ has);
@@ -91,7 +96,8 @@ module _ (s : Shared) (q : Part) (d : ℕ) (h : Held) (n : ℕ) (sound : IsSound
       }
 
 -- the devices by number, with another progress for one
-progress-at : (q : Part) (spots : List Spot) (d : ℕ) (y : Spot) → d < length spots → d < device_count → has_device q d ≡ true → by_number (own_progress q (set spots d y)) ≡ set (by_number (own_progress q spots)) d y.progress
+progress-at : (q : Part) (spots : List Spot) (d : ℕ) (y : Spot) → d < length spots → d < device_count → has_device q d ≡ true
+    → by_number (own_progress q (set spots d y)) ≡ set (by_number (own_progress q spots)) d y.progress
 progress-at q spots d y lt small has =
     ext_get_or new_progress _ _
     (length-numbers (own_progress q (set spots d y)) ∙ sym (length-set (by_number (own_progress q spots)) d y.progress ∙ length-numbers (own_progress q spots)))
@@ -112,7 +118,8 @@ progress-at q spots d y lt small has =
     (cases_eq i d))
 
 -- the transfer on device d of program q ends
-module _ (s : Shared) (q : Part) (d : ℕ) (h : Held) (sound : IsSound s) (small : d < device_count) (flies : (spot_at s.spots d).flight ≡ Some h) (is_of : IsFlightOf q d (spot_at s.spots d) h) where
+module _ (s : Shared) (q : Part) (d : ℕ) (h : Held) (sound : IsSound s) (small : d < device_count) (flies : (spot_at s.spots d).flight ≡ Some h)
+    (is_of : IsFlightOf q d (spot_at s.spots d) h) where
   abbrev n : ℕ
   n = total_of h.motion
 
@@ -133,11 +140,13 @@ module _ (s : Shared) (q : Part) (d : ℕ) (h : Held) (sound : IsSound s) (small
 
   last_is : last_lease (spot_at s.spots d).flight ≡ leases_of mid.spots d
   unfolding moved_by
-  last_is = ap last_lease flies ∙ sym (ap (λ ls. ls d) (leases_later s q d h n sound small flies is_of) ∙ with_lease_is d d (lease_by n h.motion) (leases_of s.spots) refl)
+  last_is = ap last_lease flies ∙ sym (ap (λ ls. ls d) (leases_later s q d h n sound small flies is_of)
+      ∙ with_lease_is d d (lease_by n h.motion) (leases_of s.spots) refl)
 
   pub end_is : after_end d s ≡ landed d y mid
   end_is =
-      ap₂ (λ l ss. let z : Shared = record { cells = back_cells l s.cells; spots = ss } in z) last_is (sym (set-set s.spots d (moved_spot n (spot_at s.spots d)) y))
+      ap₂ (λ l ss. let z : Shared = record { cells = back_cells l s.cells; spots = ss } in z) last_is
+      (sym (set-set s.spots d (moved_spot n (spot_at s.spots d)) y))
 
   mid_sound : IsSound mid
   mid_sound = sound-move s q d h n sound small flies is_of
@@ -145,14 +154,17 @@ module _ (s : Shared) (q : Part) (d : ℕ) (h : Held) (sound : IsSound s) (small
   pub sound-end : IsSound (after_end d s)
   sound-end = subst IsSound (sym end_is) (sound-land mid d y mid_sound small gone)
 
-  words_end : (r : Part) → own_words r.base r.size (after_end d s).cells (leases_of (after_end d s).spots) ≡ own_words r.base r.size mid.cells (leases_of mid.spots)
+  words_end : (r : Part) → own_words r.base r.size (after_end d s).cells (leases_of (after_end d s).spots) ≡ own_words r.base r.size mid.cells
+      (leases_of mid.spots)
   words_end r = ap (λ (z : Shared). own_words r.base r.size z.cells (leases_of z.spots)) end_is ∙ land_words mid d y mid_sound small gone r.base r.size
 
   y_fixture : y.fixture ≡ (spot_at s.spots d).fixture
   y_fixture = ap (λ (z : Spot). z.fixture) y_is
 
   -- what is shown of the program
-  pub end_own : (m : ℕ) → own_stock q m (after_end d s) ≡ stock q (own_claims q s) m (written (flight_moves q.base n h.motion) (own_words q.base q.size s.cells (leases_of s.spots))) (set (by_number (own_progress q s.spots)) d (ended_progress h.motion))
+  pub end_own : (m : ℕ) → own_stock q m (after_end d s) ≡ stock q (own_claims q s) m
+      (written (flight_moves q.base n h.motion) (own_words q.base q.size s.cells (leases_of s.spots)))
+      (set (by_number (own_progress q s.spots)) d (ended_progress h.motion))
   end_own m =
       ap₂ (λ fs ws. stock q (claims q (by_number fs)) m ws (by_number (own_progress q (after_end d s).spots)))
       (fixtures-set q s.spots d y in_spots (λ has. y_fixture))
@@ -161,7 +173,8 @@ module _ (s : Shared) (q : Part) (d : ℕ) (h : Held) (sound : IsSound s) (small
       (progress-at q s.spots d y in_spots small is_of.its ∙ ap (λ (z : Spot). set (by_number (own_progress q s.spots)) d z.progress) y_is)
 
   -- and of another
-  pub end_other : (m : ℕ) (r : Part) → (q.base + q.size ≤ r.base) ⊎ (r.base + r.size ≤ q.base) → has_device r d ≡ false → own_stock r m (after_end d s) ≡ own_stock r m s
+  pub end_other : (m : ℕ) (r : Part) → (q.base + q.size ≤ r.base) ⊎ (r.base + r.size ≤ q.base) → has_device r d ≡ false
+      → own_stock r m (after_end d s) ≡ own_stock r m s
   end_other m r apart not =
       ap₂ (λ fs ws. stock r (claims r (by_number fs)) m ws (by_number (own_progress r (after_end d s).spots)))
       (fixtures-set r s.spots d y in_spots (λ has. y_fixture))

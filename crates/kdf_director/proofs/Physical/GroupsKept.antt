@@ -1,5 +1,6 @@
 -- Each group stays here, or in exactly one lease, as a program writes a word or begins a transfer.
-use Rattle.std.proofs.Common.{◌≡◌, ◌≢◌, ℕ, ◌+◌, ◌/◌, ◌%◌, ◌<◌, ◌≤◌, ◌⊎◌, true, false, List, length, set, Option, Some, None, is_none, cond, refl, sym, ap, ◌∙◌, subst, ⊎_elim, arith}
+use Rattle.std.proofs.Common.{◌≡◌, ◌≢◌, ℕ, ◌+◌, ◌/◌, ◌%◌, ◌<◌, ◌≤◌, ◌⊎◌, true, false, List, length, set, Option, Some, None, is_none, cond, refl, sym, ap, ◌∙◌}
+use Rattle.std.proofs.Common.{subst, ⊎_elim, arith}
 use Rattle.std.proofs.lemmas.Bool.{cases_Bool, cases_eq, cases_lt, false_from_ne_true}
 use Rattle.std.proofs.lemmas.List.{get_or-set_same, get_or-set_other, length-set, get_or_past}
 use Rattle.kdf_lockout.specs.Groups.{Lent, group_at, is_out, with_word, without_groups, lent_groups, words_in, AreWhole, AreFull}
@@ -26,10 +27,12 @@ sound-writes q s a w sound here =
       whole = whole;
       full = sound.full;
       inside = λ d l is. subst (λ n. l.first + length l.groups ≤ n) (sym count) (sound.inside d l is);
-      out = λ d g has. let ne : g ≢ g0 = λ e. cc (sym (ap is_none (ap (group_at s.cells) (sym e) ∙ sound.out d g has)) ∙ here) in get_or-set_other s.cells g0 g _ None ne ∙ sound.out d g has;
+      out = λ d g has. let ne : g ≢ g0 = λ e. cc (sym (ap is_none (ap (group_at s.cells) (sym e) ∙ sound.out d g has)) ∙ here) in get_or-set_other s.cells g0 g
+          _ None ne ∙ sound.out d g has;
       alone = sound.alone;
       held = λ g lt none. ⊎_elim
-          (λ (e : g ≡ g0). let inside : g0 < length s.cells = omega (arith, count) in cc (sym (ap (group_at (with_word s.cells (q.base + a) w)) e ∙ get_or-set_same s.cells g0 _ None inside) ∙ none))
+          (λ (e : g ≡ g0). let inside : g0 < length s.cells =
+          omega (arith, count) in cc (sym (ap (group_at (with_word s.cells (q.base + a) w)) e ∙ get_or-set_same s.cells g0 _ None inside) ∙ none))
           (λ (ne : g ≢ g0). sound.held g (omega (arith, count)) (sym (get_or-set_other s.cells g0 g _ None ne) ∙ none))
           (cases_eq g g0);
     }
@@ -54,7 +57,8 @@ sound-writes q s a w sound here =
         let there = some_of (group_at s.cells g0) here in
         ⊎_elim
         (λ (lt : g0 < length s.cells).
-        let new : ws ≡ set (words_in (group_at s.cells g0)) ((q.base + a) % 32) w = cc (sym is ∙ ap (group_at (with_word s.cells (q.base + a) w)) e ∙ get_or-set_same s.cells g0 _ None lt) in
+        let new : ws ≡ set (words_in (group_at s.cells g0)) ((q.base + a) % 32) w =
+        cc (sym is ∙ ap (group_at (with_word s.cells (q.base + a) w)) e ∙ get_or-set_same s.cells g0 _ None lt) in
         ap length new ∙ length-set (words_in (group_at s.cells g0)) ((q.base + a) % 32) w ∙ sound.whole g0 _ there)
         (λ (le : length s.cells ≤ g0). absurd (past g0 le _ there))
         (cases_lt g0 (length s.cells)))
@@ -62,7 +66,8 @@ sound-writes q s a w sound here =
         (cases_eq g g0)
 
 -- a transfer begins
-module _ (s : Shared) (q : Part) (d : ℕ) (o : TransferOrder) (first last : ℕ) (sound : IsSound s) (small : d < device_count) (idle : (spot_at s.spots d).flight ≡ None) (free : has_area o ≡ true → IsFreeArea s.cells (q.base + first) (q.base + last)) where
+module _ (s : Shared) (q : Part) (d : ℕ) (o : TransferOrder) (first last : ℕ) (sound : IsSound s) (small : d < device_count)
+    (idle : (spot_at s.spots d).flight ≡ None) (free : has_area o ≡ true → IsFreeArea s.cells (q.base + first) (q.base + last)) where
   abbrev f : ℕ
   f = (q.base + first) / 32
 
@@ -111,7 +116,8 @@ module _ (s : Shared) (q : Part) (d : ℕ) (o : TransferOrder) (first last : ℕ
   has_lease : has_area o ≡ true → (g : ℕ) → f ≤ g → g < f + n → has_group lease g ≡ true
   has_lease has g low high =
       let range = lent_range s.cells f n (fits has) in
-      ap (λ b. has_group (cond b (Some (lent_groups s.cells f n)) None) g) has ∙ has_in (lent_groups s.cells f n) g (omega (arith, range)) (omega (arith, range))
+      ap (λ b. has_group (cond b (Some (lent_groups s.cells f n)) None) g) has
+      ∙ has_in (lent_groups s.cells f n) g (omega (arith, range)) (omega (arith, range))
 
   cells_in : has_area o ≡ true → (g : ℕ) → f ≤ g → g < f + n → group_at later.cells g ≡ None
   cells_in has g low high = ap (λ b. group_at (cond b (without_groups s.cells f n) s.cells) g) has ∙ without_in s.cells f n g (fits has) low high
@@ -155,7 +161,8 @@ module _ (s : Shared) (q : Part) (d : ℕ) (o : TransferOrder) (first last : ℕ
         full = λ e l is. ⊎_elim
             (λ (same : e ≡ d).
             let l_is = lease_is l (sym at_d ∙ (ap (leases_of later.spots) (sym same) ∙ is)) in
-            subst AreFull (sym l_is.1) (lent_full s.cells f n (fits l_is.0) sound.whole (λ g low high. free_here s (q.base + first) (q.base + last) g (free l_is.0) low high)))
+            subst AreFull (sym l_is.1) (lent_full s.cells f n (fits l_is.0) sound.whole
+            (λ g low high. free_here s (q.base + first) (q.base + last) g (free l_is.0) low high)))
             (λ (ne : e ≢ d). sound.full e l (sym (other e ne) ∙ is))
             (cases_eq e d);
         inside = λ e l is. ⊎_elim
@@ -175,7 +182,8 @@ module _ (s : Shared) (q : Part) (d : ℕ) (o : TransferOrder) (first last : ℕ
         alone = λ e k g ne has. ⊎_elim
             (λ (same : e ≡ d).
             let other_k : k ≢ d = λ i. ne (i ∙ sym same) in
-            ap (λ x. has_group x g) (other k other_k) ∙ apart k g (ap (λ x. has_group x g) (sym at_d) ∙ (ap (λ x. has_group (leases_of later.spots x) g) (sym same) ∙ has)))
+            ap (λ x. has_group x g) (other k other_k)
+            ∙ apart k g (ap (λ x. has_group x g) (sym at_d) ∙ (ap (λ x. has_group (leases_of later.spots x) g) (sym same) ∙ has)))
             (λ (diff : e ≢ d).
             let had = ap (λ x. has_group x g) (sym (other e diff)) ∙ has in
             ⊎_elim

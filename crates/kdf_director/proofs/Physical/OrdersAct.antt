@@ -1,5 +1,6 @@
 -- What an order that acts makes of what is shown of a program.
-use Rattle.std.proofs.Common.{◌≡◌, ◌≢◌, ℕ, ◌+◌, ◌*◌, ◌/◌, ◌%◌, ◌<◌, ◌≤◌, ◌⊎◌, inl, inr, Bool, true, false, List, length, map, set, Option, Some, None, is_some, is_none, cond, refl, sym, ap, ap₂, ◌∙◌, ⊎_elim, arith}
+use Rattle.std.proofs.Common.{◌≡◌, ◌≢◌, ℕ, ◌+◌, ◌*◌, ◌/◌, ◌%◌, ◌<◌, ◌≤◌, ◌⊎◌, inl, inr, Bool, true, false, List, length, map, set, Option, Some, None, is_some}
+use Rattle.std.proofs.Common.{is_none, cond, refl, sym, ap, ap₂, ◌∙◌, ⊎_elim, arith}
 use Rattle.std.proofs.Math.Path.{fun_ext}
 use Rattle.std.proofs.lemmas.Bool.{cases_Bool, cases_eq, eq-eqb, ne_eqb}
 use Rattle.std.proofs.lemmas.List.{get_or-set_same, get_or-set_other}
@@ -36,7 +37,8 @@ some_of None h = cc
 some_of (Some ws) h = refl
 
 -- a word that is written where its group is
-pub writes_own : (q : Part) (n : ℕ) (s : Shared) (a w : ℕ) → IsSound s → q.base + q.size ≤ 32 * length s.cells → a < q.size → is_out s.cells ((q.base + a) / 32) ≡ false → own_stock q n (after_act q s (Writes a w)) ≡ begun (Writes a w) (own_stock q n s)
+pub writes_own : (q : Part) (n : ℕ) (s : Shared) (a w : ℕ) → IsSound s → q.base + q.size ≤ 32 * length s.cells → a < q.size
+    → is_out s.cells ((q.base + a) / 32) ≡ false → own_stock q n (after_act q s (Writes a w)) ≡ begun (Writes a w) (own_stock q n s)
 writes_own q n s a w sound fits lt here =
     let inside : (q.base + a) / 32 < length s.cells = omega arith in
     let is = some_of (group_at s.cells ((q.base + a) / 32)) here in
@@ -46,12 +48,15 @@ writes_own q n s a w sound fits lt here =
     (λ x. words.word_of-put_word s.cells (leases_of s.spots) (words_in (group_at s.cells ((q.base + a) / 32))) (q.base + a) w x is inside within))
 
 -- another program's word
-pub writes_other : (q r : Part) (n : ℕ) (s : Shared) (a w : ℕ) → IsSound s → q.base + q.size ≤ 32 * length s.cells → a < q.size → is_out s.cells ((q.base + a) / 32) ≡ false → (q.base + q.size ≤ r.base) ⊎ (r.base + r.size ≤ q.base) → own_stock r n (after_act q s (Writes a w)) ≡ own_stock r n s
+pub writes_other : (q r : Part) (n : ℕ) (s : Shared) (a w : ℕ) → IsSound s → q.base + q.size ≤ 32 * length s.cells → a < q.size
+    → is_out s.cells ((q.base + a) / 32) ≡ false → (q.base + q.size ≤ r.base) ⊎ (r.base + r.size ≤ q.base)
+    → own_stock r n (after_act q s (Writes a w)) ≡ own_stock r n s
 writes_other q r n s a w sound fits lt here apart =
     let inside : (q.base + a) / 32 < length s.cells = omega arith in
     let is = some_of (group_at s.cells ((q.base + a) / 32)) here in
     let within : (q.base + a) % 32 < length (words_in (group_at s.cells ((q.base + a) / 32))) = (let e = sound.whole ((q.base + a) / 32) _ is in omega arith) in
-    let outside : (q.base + a < r.base) ⊎ (r.base + r.size ≤ q.base + a) = ⊎_elim (λ (h : q.base + q.size ≤ r.base). inl (omega arith)) (λ (h : r.base + r.size ≤ q.base). inr (omega arith)) apart in
+    let outside : (q.base + a < r.base) ⊎ (r.base + r.size ≤ q.base + a) = ⊎_elim (λ (h : q.base + q.size ≤ r.base). inl (omega arith))
+    (λ (h : r.base + r.size ≤ q.base). inr (omega arith)) apart in
     ap (λ ws. stock r (own_claims r s) n ws (by_number (own_progress r s.spots)))
     (words.own_words_other r.base r.size (q.base + a) w s.cells (with_word s.cells (q.base + a) w) (leases_of s.spots) (leases_of s.spots) outside
     (λ x. words.word_of-put_word s.cells (leases_of s.spots) (words_in (group_at s.cells ((q.base + a) / 32))) (q.base + a) w x is inside within))
@@ -61,7 +66,8 @@ where_true true x y z same = same refl
 where_true false x y z same = refl
 
 -- the devices of a program, where one spot is another that shows the same
-pub fixtures-set : (r : Part) (spots : List Spot) (d : ℕ) (x : Spot) → d < length spots → (owns r.devices d ≡ true → x.fixture ≡ (spot_at spots d).fixture) → own_fixture r (set spots d x) ≡ own_fixture r spots
+pub fixtures-set : (r : Part) (spots : List Spot) (d : ℕ) (x : Spot) → d < length spots → (owns r.devices d ≡ true → x.fixture ≡ (spot_at spots d).fixture)
+    → own_fixture r (set spots d x) ≡ own_fixture r spots
 fixtures-set r spots d x lt same =
     fun_ext
     (λ e. ⊎_elim
@@ -80,7 +86,8 @@ progress_in r d x = cond (has_device r d) x.progress (left_in r.stints d)
 pub progress-same : (r : Part) (d : ℕ) (x y : Spot) → (has_device r d ≡ true → x.progress ≡ y.progress) → progress_in r d x ≡ progress_in r d y
 progress-same r d x y same = where_true (has_device r d) x.progress y.progress (left_in r.stints d) same
 
-pub progress-set : (r : Part) (spots : List Spot) (d : ℕ) (x : Spot) → d < length spots → (has_device r d ≡ true → x.progress ≡ (spot_at spots d).progress) → own_progress r (set spots d x) ≡ own_progress r spots
+pub progress-set : (r : Part) (spots : List Spot) (d : ℕ) (x : Spot) → d < length spots → (has_device r d ≡ true → x.progress ≡ (spot_at spots d).progress)
+    → own_progress r (set spots d x) ≡ own_progress r spots
 progress-set r spots d x lt same =
     fun_ext
     (λ e. ⊎_elim
@@ -101,7 +108,8 @@ unfolding lent_groups
 lent-is cells f n = refl
 
 -- the words of every program stay where a transfer begins
-module _ (s : Shared) (q : Part) (d : ℕ) (o : TransferOrder) (first last : ℕ) (sound : IsSound s) (small : d < device_count) (idle : (spot_at s.spots d).flight ≡ None) (free : has_area o ≡ true → IsFreeArea s.cells (q.base + first) (q.base + last)) where
+module _ (s : Shared) (q : Part) (d : ℕ) (o : TransferOrder) (first last : ℕ) (sound : IsSound s) (small : d < device_count)
+    (idle : (spot_at s.spots d).flight ≡ None) (free : has_area o ≡ true → IsFreeArea s.cells (q.base + first) (q.base + last)) where
   abbrev f : ℕ
   f = q.base + first
 
@@ -125,21 +133,26 @@ module _ (s : Shared) (q : Part) (d : ℕ) (o : TransferOrder) (first last : ℕ
       ap (λ ls. physical.word_at_place later.cells ls x) leases_later
       ∙ ⊎_elim with_area without_area (cases_Bool (has_area o))
     where
-      with_area : has_area o ≡ true → physical.word_at_place later.cells (with_lease d (start_lease o f l s.cells) (leases_of s.spots)) x ≡ physical.word_at_place s.cells (leases_of s.spots) x
+      with_area : has_area o ≡ true → physical.word_at_place later.cells (with_lease d (start_lease o f l s.cells) (leases_of s.spots)) x
+          ≡ physical.word_at_place s.cells (leases_of s.spots) x
       with_area has =
           let h = free has in
           let rising = h.rising in
           let inside = h.inside in
           let fits : f / 32 + touched f l ≤ length s.cells = omega arith in
-          ap₂ (λ b c. physical.word_at_place (cond b (without_groups s.cells (f / 32) (touched f l)) s.cells) (with_lease d (cond c (Some (lent_groups s.cells (f / 32) (touched f l))) None) (leases_of s.spots)) x) has has
-          ∙ ap₂ (λ cs k. physical.word_at_place cs (with_lease d (Some k) (leases_of s.spots)) x) (without-is s.cells (f / 32) (touched f l)) (lent-is s.cells (f / 32) (touched f l))
+          ap₂ (λ b c. physical.word_at_place (cond b (without_groups s.cells (f / 32) (touched f l)) s.cells)
+          (with_lease d (cond c (Some (lent_groups s.cells (f / 32) (touched f l))) None) (leases_of s.spots)) x) has has
+          ∙ ap₂ (λ cs k. physical.word_at_place cs (with_lease d (Some k) (leases_of s.spots)) x) (without-is s.cells (f / 32) (touched f l))
+          (lent-is s.cells (f / 32) (touched f l))
           ∙ words.word_of-lent s.cells (leases_of s.spots) d (f / 32) (touched f l) small fits no_lease
           (λ g low high. free_here s f l g h low high)
           (λ e g low high. let here = free_here s f l g h low high in here_apart s e g here.0 sound here.1) x
 
-      without_area : has_area o ≡ false → physical.word_at_place later.cells (with_lease d (start_lease o f l s.cells) (leases_of s.spots)) x ≡ physical.word_at_place s.cells (leases_of s.spots) x
+      without_area : has_area o ≡ false → physical.word_at_place later.cells (with_lease d (start_lease o f l s.cells) (leases_of s.spots)) x
+          ≡ physical.word_at_place s.cells (leases_of s.spots) x
       without_area not =
-          ap₂ (λ b c. physical.word_at_place (cond b (without_groups s.cells (f / 32) (touched f l)) s.cells) (with_lease d (cond c (Some (lent_groups s.cells (f / 32) (touched f l))) None) (leases_of s.spots)) x) not not
+          ap₂ (λ b c. physical.word_at_place (cond b (without_groups s.cells (f / 32) (touched f l)) s.cells)
+          (with_lease d (cond c (Some (lent_groups s.cells (f / 32) (touched f l))) None) (leases_of s.spots)) x) not not
           ∙ ap (λ ls. physical.word_at_place s.cells ls x) (same_leases)
         where
           same_leases : with_lease d None (leases_of s.spots) ≡ leases_of s.spots
@@ -153,9 +166,12 @@ module _ (s : Shared) (q : Part) (d : ℕ) (o : TransferOrder) (first last : ℕ
   -- what is shown of any program stays where a transfer begins
   pub starts_own : (r : Part) (n : ℕ) → (owns r.devices d ≡ true → is_some (spot_at s.spots d).fixture ≡ true) → own_stock r n later ≡ own_stock r n s
   starts_own r n there =
-      let words_same : own_words r.base r.size later.cells (leases_of later.spots) ≡ own_words r.base r.size s.cells (leases_of s.spots) = words.own_words_same r.base r.size s.cells later.cells (leases_of s.spots) (leases_of later.spots) start_word in
-      let fixtures : own_fixture r later.spots ≡ own_fixture r s.spots = fixtures-set r s.spots d (start_spot q.p o f l s.cells (spot_at s.spots d)) lt (λ has. or_some (spot_at s.spots d).fixture (there has)) in
-      let progress : own_progress r later.spots ≡ own_progress r s.spots = progress-set r s.spots d (start_spot q.p o f l s.cells (spot_at s.spots d)) lt (λ has. refl) in
+      let words_same : own_words r.base r.size later.cells (leases_of later.spots) ≡ own_words r.base r.size s.cells (leases_of s.spots) =
+      words.own_words_same r.base r.size s.cells later.cells (leases_of s.spots) (leases_of later.spots) start_word in
+      let fixtures : own_fixture r later.spots ≡ own_fixture r s.spots = fixtures-set r s.spots d (start_spot q.p o f l s.cells (spot_at s.spots d)) lt
+      (λ has. or_some (spot_at s.spots d).fixture (there has)) in
+      let progress : own_progress r later.spots ≡ own_progress r s.spots = progress-set r s.spots d (start_spot q.p o f l s.cells (spot_at s.spots d)) lt
+      (λ has. refl) in
       ap₂ (λ fs ws. stock r (claims r (by_number fs)) n ws (by_number (own_progress r later.spots))) fixtures words_same
       ∙ ap (λ ps. stock r (own_claims r s) n (own_words r.base r.size s.cells (leases_of s.spots)) (by_number ps)) progress
     where

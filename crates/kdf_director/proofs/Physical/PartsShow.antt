@@ -25,7 +25,8 @@ use Rattle.kdf_director.specs.Fields.Stints.{left_in, lends}
 use Rattle.kdf_transfer.proofs.Numbers.{limit_is, number_at}
 
 -- a word of the program
-pub own_word : (q : Part) (n : ℕ) (s : Shared) (a : ℕ) → a < q.size → word_in (own_stock q n s) a ≡ physical.word_at_place s.cells (leases_of s.spots) (q.base + a)
+pub own_word : (q : Part) (n : ℕ) (s : Shared) (a : ℕ) → a < q.size → word_in (own_stock q n s) a ≡ physical.word_at_place s.cells (leases_of s.spots)
+    (q.base + a)
 own_word q n s a lt = get_or-map-range_with_len (λ x. physical.word_at_place s.cells (leases_of s.spots) (q.base + x)) 0 q.size a a 0 lt (omega arith)
 
 pub ok_of : {E V : Type 0} (b : Bool) (e : E) (w v : V) → Ok w ≡ cond b (Err e) (Ok v) → (b ≡ false) × (w ≡ v)
@@ -60,7 +61,8 @@ owned_some true f is = refl
 owned_some false f is = cc
 
 -- where there is a device of a number to the program, it is the one in the place
-pub fixture_there : (q : Part) (s : Shared) (d : ℕ) → IsKept q s → d < device_count → is_some (fixture_at (own_claims q s) d) ≡ true → fixture_at (own_claims q s) d ≡ (spot_at s.spots d).fixture
+pub fixture_there : (q : Part) (s : Shared) (d : ℕ) → IsKept q s → d < device_count → is_some (fixture_at (own_claims q s) d) ≡ true
+    → fixture_at (own_claims q s) d ≡ (spot_at s.spots d).fixture
 fixture_there q s d kept lt some = by_pool (pool_kind q d) refl
   where
     by_pool : (o : Option Kind) → pool_kind q d ≡ o → fixture_at (own_claims q s) d ≡ (spot_at s.spots d).fixture
@@ -70,7 +72,8 @@ fixture_there q s d kept lt some = by_pool (pool_kind q d) refl
         at ∙ ap (λ b. cond b (spot_at s.spots d).fixture None) (owned_some (owns q.devices d) (spot_at s.spots d).fixture (ap is_some (sym at) ∙ some))
 
 -- and it is the program's where it is claimed
-marked_has : (q : Part) (s : Shared) (d : ℕ) → IsActive q → d < device_count → is_some (fixture_at (own_claims q s) d) ≡ true → get_or q.claimed d false ≡ true → has_device q d ≡ true
+marked_has : (q : Part) (s : Shared) (d : ℕ) → IsActive q → d < device_count → is_some (fixture_at (own_claims q s) d) ≡ true → get_or q.claimed d false ≡ true
+    → has_device q d ≡ true
 marked_has q s d active lt some marked = by_pool (pool_kind q d) refl
   where
     by_pool : (o : Option Kind) → pool_kind q d ≡ o → has_device q d ≡ true
@@ -92,7 +95,8 @@ claim_kind : (q : Part) (s : Shared) (d : ℕ) (k : Kind) → is_kind k (claim (
 claim_kind q s d k is = (claim_true (ltb d 16 && get_or q.claimed d false) (kind_at (own_claims q s) d) k is).1
 
 -- what it is stands in its place
-pub claim_fixture : (q : Part) (s : Shared) (d : ℕ) (k : Kind) → IsKept q s → is_kind k (claim (own_claims q s) d) ≡ true → (is_some (fixture_at (own_claims q s) d) ≡ true) × (fixture_at (own_claims q s) d ≡ (spot_at s.spots d).fixture)
+pub claim_fixture : (q : Part) (s : Shared) (d : ℕ) (k : Kind) → IsKept q s → is_kind k (claim (own_claims q s) d) ≡ true
+    → (is_some (fixture_at (own_claims q s) d) ≡ true) × (fixture_at (own_claims q s) d ≡ (spot_at s.spots d).fixture)
 claim_fixture q s d k kept is =
     let some = some_kind (fixture_at (own_claims q s) d) k (claim_kind q s d k is) in
     (some, fixture_there q s d kept (claim_small q s d k is) some)
@@ -102,7 +106,8 @@ claim_has q s d k kept active is =
     marked_has q s d active (claim_small q s d k is) (claim_fixture q s d k kept is).0 (claim_marked q s d k is)
 
 -- and of that kind
-pub claim_spot : (q : Part) (s : Shared) (d : ℕ) (k : Kind) → IsKept q s → is_kind k (claim (own_claims q s) d) ≡ true → is_kind k (spot_kind (spot_at s.spots d)) ≡ true
+pub claim_spot : (q : Part) (s : Shared) (d : ℕ) (k : Kind) → IsKept q s → is_kind k (claim (own_claims q s) d) ≡ true
+    → is_kind k (spot_kind (spot_at s.spots d)) ≡ true
 claim_spot q s d k kept is =
     ap (λ f. is_kind k (kind_in f)) (sym (claim_fixture q s d k kept is).1) ∙ claim_kind q s d k is
 
@@ -130,20 +135,25 @@ by_claim true x y same = same refl
 by_claim false x y same = refl
 
 -- what is claimed, by the places
-pub claim_is : (q : Part) (s : Shared) (d : ℕ) → claim (own_claims q s) d ≡ cond (ltb d 16 && get_or q.claimed d false) (kind_in (pooled_or (pool_kind q d) (fixture_owned q.devices s.spots d))) None
+pub claim_is : (q : Part) (s : Shared) (d : ℕ) → claim (own_claims q s) d ≡ cond (ltb d 16 && get_or q.claimed d false)
+    (kind_in (pooled_or (pool_kind q d) (fixture_owned q.devices s.spots d))) None
 claim_is q s d =
     by_claim (ltb d 16 && get_or q.claimed d false) (kind_at (own_claims q s) d) (kind_in (pooled_or (pool_kind q d) (fixture_owned q.devices s.spots d)))
     (λ is. let lt : d < 16 = ltb-true d 16 (and_parts _ _ is).0 in ap (λ f. kind_in (pooled_or (pool_kind q d) f)) (own_is q s d (omega (arith, limit_is))))
 
 -- and where the pool is that of a slot
-pub claim_lent : (q : Part) (s : Shared) (pool : List (ℕ × Kind)) (d : ℕ) → q.pool ≡ by_number (lent_kind pool) → claim (own_claims q s) d ≡ cond (ltb d 16 && get_or q.claimed d false) (kind_in (pooled_or (lent_kind pool d) (fixture_owned q.devices s.spots d))) None
+pub claim_lent : (q : Part) (s : Shared) (pool : List (ℕ × Kind)) (d : ℕ) → q.pool ≡ by_number (lent_kind pool)
+    → claim (own_claims q s) d ≡ cond (ltb d 16 && get_or q.claimed d false) (kind_in (pooled_or (lent_kind pool d) (fixture_owned q.devices s.spots d))) None
 claim_lent q s pool d is =
     claim_is q s d
-    ∙ by_claim (ltb d 16 && get_or q.claimed d false) (kind_in (pooled_or (pool_kind q d) (fixture_owned q.devices s.spots d))) (kind_in (pooled_or (lent_kind pool d) (fixture_owned q.devices s.spots d)))
-    (λ h. let lt : d < 16 = ltb-true d 16 (and_parts _ _ h).0 in ap (λ o. kind_in (pooled_or o (fixture_owned q.devices s.spots d))) (ap (λ ps. get_or ps d None) is ∙ number_at (lent_kind pool) d None (omega (arith, limit_is))))
+    ∙ by_claim (ltb d 16 && get_or q.claimed d false) (kind_in (pooled_or (pool_kind q d) (fixture_owned q.devices s.spots d)))
+    (kind_in (pooled_or (lent_kind pool d) (fixture_owned q.devices s.spots d)))
+    (λ h. let lt : d < 16 = ltb-true d 16 (and_parts _ _ h).0 in ap (λ o. kind_in (pooled_or o (fixture_owned q.devices s.spots d)))
+    (ap (λ ps. get_or ps d None) is ∙ number_at (lent_kind pool) d None (omega (arith, limit_is))))
 
 -- a device that is wanted and isn't claimed
-pub free_is : (w : Wanted) (f : Option Fixture) (has claimed : Bool) → (has && (not claimed && is_wanted w f)) ≡ (is_wanted w (cond has f None) && not (is_some (cond claimed (kind_in (cond has f None)) None)))
+pub free_is : (w : Wanted) (f : Option Fixture) (has claimed : Bool)
+    → (has && (not claimed && is_wanted w f)) ≡ (is_wanted w (cond has f None) && not (is_some (cond claimed (kind_in (cond has f None)) None)))
 free_is (Kinded Tr) f false claimed = refl
 free_is (Kinded Tp) f false claimed = refl
 free_is (Kinded Cr) f false claimed = refl
@@ -178,7 +188,9 @@ not_pooled q s d kept has = none_some (pool_kind q d) (kept.apart d has)
     none_some None is = refl
     none_some (Some k) is = cc
 
-pub free_shown : (q : Part) (s : Shared) (d : ℕ) (w : Wanted) → IsKept q s → d < 16 → (owns q.devices d && (not (get_or q.claimed d false) && is_wanted w (spot_at s.spots d).fixture)) ≡ (is_wanted w (own_fixture_at (own_claims q s) d) && not (is_claimed (own_claims q s) d))
+pub free_shown : (q : Part) (s : Shared) (d : ℕ) (w : Wanted) → IsKept q s → d < 16
+    → (owns q.devices d && (not (get_or q.claimed d false) && is_wanted w (spot_at s.spots d).fixture))
+    ≡ (is_wanted w (own_fixture_at (own_claims q s) d) && not (is_claimed (own_claims q s) d))
 free_shown q s d w kept lt =
     free_is w (spot_at s.spots d).fixture (owns q.devices d) (get_or q.claimed d false)
     ∙ by_owned (owns q.devices d) refl
@@ -194,13 +206,19 @@ free_shown q s d w kept lt =
     none_here (Kinded Mt) x = refl
     none_here (Labelled label) x = refl
 
-    by_owned : (b : Bool) → owns q.devices d ≡ b → (is_wanted w (cond (owns q.devices d) (spot_at s.spots d).fixture None) && not (is_some (cond (get_or q.claimed d false) (kind_in (cond (owns q.devices d) (spot_at s.spots d).fixture None)) None))) ≡ (is_wanted w (own_fixture_at (own_claims q s) d) && not (is_claimed (own_claims q s) d))
+    by_owned : (b : Bool) → owns q.devices d ≡ b
+        → (is_wanted w (cond (owns q.devices d) (spot_at s.spots d).fixture None)
+        && not (is_some (cond (get_or q.claimed d false) (kind_in (cond (owns q.devices d) (spot_at s.spots d).fixture None)) None)))
+        ≡ (is_wanted w (own_fixture_at (own_claims q s) d) && not (is_claimed (own_claims q s) d))
     by_owned true has =
         ap₂ (λ f b. is_wanted w f && not (is_some (cond (b && get_or q.claimed d false) (kind_in f) None)))
         (sym (own_is q s d small)) (sym (lt-ltb d 16 lt))
-        ∙ ap (λ o. is_wanted w (own_fixture_at (own_claims q s) d) && not (is_some (cond (ltb d 16 && get_or q.claimed d false) (kind_in (pooled_or o (own_fixture_at (own_claims q s) d))) None))) (sym (not_pooled q s d kept has))
+        ∙ ap (λ o. is_wanted w (own_fixture_at (own_claims q s) d)
+        && not (is_some (cond (ltb d 16 && get_or q.claimed d false) (kind_in (pooled_or o (own_fixture_at (own_claims q s) d))) None)))
+        (sym (not_pooled q s d kept has))
     by_owned false not_own =
-        ap (λ b. is_wanted w (cond b (spot_at s.spots d).fixture None) && not (is_some (cond (get_or q.claimed d false) (kind_in (cond b (spot_at s.spots d).fixture None)) None))) not_own
+        ap (λ b. is_wanted w (cond b (spot_at s.spots d).fixture None)
+        && not (is_some (cond (get_or q.claimed d false) (kind_in (cond b (spot_at s.spots d).fixture None)) None))) not_own
         ∙ none_here w (not (is_some (cond (get_or q.claimed d false) (kind_in None) None)))
         ∙ sym (none_here w (not (is_claimed (own_claims q s) d)))
         ∙ ap (λ f. is_wanted w f && not (is_claimed (own_claims q s) d)) (sym (own_is q s d small ∙ ap (λ b. cond b (spot_at s.spots d).fixture None) not_own))
@@ -212,7 +230,8 @@ free_owned q s w d kept lt is =
     (and_parts _ _ (free_shown q s d w kept lt ∙ found (is_free w (own_claims q s)) (range_with_len 0 16) d is)).0
 
 -- the progress of one of its devices
-pub own_device : (q : Part) (n : ℕ) (s : Shared) (d : ℕ) → d < device_count → has_device q d ≡ true → device_in (own_stock q n s) d ≡ (spot_at s.spots d).progress
+pub own_device : (q : Part) (n : ℕ) (s : Shared) (d : ℕ) → d < device_count → has_device q d ≡ true
+    → device_in (own_stock q n s) d ≡ (spot_at s.spots d).progress
 own_device q n s d lt has = number_at (own_progress q s.spots) d new_progress lt ∙ ap (λ b. cond b (spot_at s.spots d).progress (left_in q.stints d)) has
 
 -- an answer of 1 or 0

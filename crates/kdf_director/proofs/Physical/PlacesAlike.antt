@@ -8,7 +8,8 @@ use Rattle.kdf_places.specs.Shared.{Shared}
 use Rattle.kdf_places.specs.Spots.{Spot, no_spot, spot_at}
 
 -- what is the same of the new place and the old is the same of each place
-pub same_at : {X : Type 0} (f : Spot → X) (spots : List Spot) (d e : ℕ) (y : Spot) → f y ≡ f (spot_at spots d) → f (spot_at (set spots d y) e) ≡ f (spot_at spots e)
+pub same_at : {X : Type 0} (f : Spot → X) (spots : List Spot) (d e : ℕ) (y : Spot) → f y ≡ f (spot_at spots d)
+    → f (spot_at (set spots d y) e) ≡ f (spot_at spots e)
 same_at f spots d e y same =
     ⊎_elim
     (λ (is : e ≡ d).

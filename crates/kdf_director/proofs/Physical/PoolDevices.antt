@@ -1,6 +1,7 @@
 -- What a device that is taken from the pool, or leaves a program, makes of what is shown of the programs.
 use Rattle.std.specs.List.{All, list_any}
-use Rattle.std.proofs.Common.{◌≡◌, ◌≢◌, ℕ, ◌+◌, ◌<◌, ◌||◌, Bool, true, false, List, [], ◌∷◌, ◌++◌, length, get_or, map, set, Option, Some, None, is_some, cond, refl, sym, ap, ap₂, ◌∙◌, subst, ⊎_elim, arith}
+use Rattle.std.proofs.Common.{◌≡◌, ◌≢◌, ℕ, ◌+◌, ◌<◌, ◌||◌, Bool, true, false, List, [], ◌∷◌, ◌++◌, length, get_or, map, set, Option, Some, None, is_some, cond}
+use Rattle.std.proofs.Common.{refl, sym, ap, ap₂, ◌∙◌, subst, ⊎_elim, arith}
 use Rattle.std.specs.Option.{option_map}
 use Rattle.std.proofs.Math.Path.{fun_ext}
 use Rattle.std.proofs.lemmas.Bool.{and_parts, cases_Bool, cases_eq, eq-eqb, eqb-true, ne_eqb, or_parts, or_right}
@@ -24,7 +25,8 @@ use Rattle.kdf_theory.specs.Seen.{begun}
 use Rattle.kdf_places.specs.Spots.{Spot, blank_spot, fixture_or, lease_held, leases_of, no_spot, spot_at}
 use Rattle.kdf_director.specs.Fields.Stints.{IsOfKind, Keeping, Loan, Lent, Left, is_left, is_lent, is_open_of, left_in, lends, stint_of, with_loan}
 use Rattle.kdf_director.proofs.Physical.OrdersAct.{claims, fixtures-set, progress_in, progress-same, stock}
-use Rattle.kdf_director.proofs.Physical.StintsChange.{IsNotLeft, apart_push, apart_with, by_open, device_with, left_here, left_there, lends_here, lends_open, lends_push, lends_there, none_kept, open_others, stints_back, stints_left}
+use Rattle.kdf_director.proofs.Physical.StintsChange.{IsNotLeft, apart_push, apart_with, by_open, device_with, left_here, left_there, lends_here, lends_open}
+use Rattle.kdf_director.proofs.Physical.StintsChange.{lends_push, lends_there, none_kept, open_others, stints_back, stints_left}
 use Rattle.kdf_director.proofs.Physical.PartsShow.{own_device}
 
 -- what is shared, one place being another
@@ -32,7 +34,8 @@ abbrev pub with_spot : ℕ → Spot → Shared → Shared
 with_spot d x s = record s { spots = set s.spots d x }
 
 -- what holds at each place then
-pub at_spot : (spots : List Spot) (d : ℕ) (x : Spot) → d < length spots → (P : ℕ → Spot → Type 0) → P d x → ((e : ℕ) → e ≢ d → P e (spot_at spots e)) → (e : ℕ) → P e (spot_at (set spots d x) e)
+pub at_spot : (spots : List Spot) (d : ℕ) (x : Spot) → d < length spots → (P : ℕ → Spot → Type 0) → P d x → ((e : ℕ) → e ≢ d → P e (spot_at spots e)) → (e : ℕ)
+    → P e (spot_at (set spots d x) e)
 at_spot spots d x lt P here others e =
     ⊎_elim
     (λ (same : e ≡ d).
@@ -42,11 +45,13 @@ at_spot spots d x lt P here others e =
 
 -- ---- places without a transfer
 
-pub leases-idle : (spots : List Spot) (d : ℕ) (x : Spot) → d < length spots → (spot_at spots d).flight ≡ None → x.flight ≡ None → leases_of (set spots d x) ≡ leases_of spots
+pub leases-idle : (spots : List Spot) (d : ℕ) (x : Spot) → d < length spots → (spot_at spots d).flight ≡ None → x.flight ≡ None
+    → leases_of (set spots d x) ≡ leases_of spots
 leases-idle spots d x lt idle none =
     fun_ext (at_spot spots d x lt (λ e y. lease_held y.flight ≡ leases_of spots e) (ap lease_held none ∙ sym (ap lease_held idle)) (λ e ne. refl))
 
-pub sound-idle : (s : Shared) (d : ℕ) (x : Spot) → IsSound s → d < device_count → (spot_at s.spots d).flight ≡ None → x.flight ≡ None → IsSound (with_spot d x s)
+pub sound-idle : (s : Shared) (d : ℕ) (x : Spot) → IsSound s → d < device_count → (spot_at s.spots d).flight ≡ None → x.flight ≡ None
+    → IsSound (with_spot d x s)
 sound-idle s d x sound small idle none =
     let leases = leases-idle s.spots d x (let e = sound.spots in omega arith) idle none in
     record {
@@ -60,7 +65,9 @@ sound-idle s d x sound small idle none =
     }
 
 -- what is shown of a program to which the place shows the same
-pub stock-idle : (r : Part) (n : ℕ) (s : Shared) (d : ℕ) (x : Spot) → d < length s.spots → (spot_at s.spots d).flight ≡ None → x.flight ≡ None → (owns r.devices d ≡ true → x.fixture ≡ (spot_at s.spots d).fixture) → progress_in r d x ≡ progress_in r d (spot_at s.spots d) → own_stock r n (with_spot d x s) ≡ own_stock r n s
+pub stock-idle : (r : Part) (n : ℕ) (s : Shared) (d : ℕ) (x : Spot) → d < length s.spots → (spot_at s.spots d).flight ≡ None → x.flight ≡ None
+    → (owns r.devices d ≡ true → x.fixture ≡ (spot_at s.spots d).fixture) → progress_in r d x ≡ progress_in r d (spot_at s.spots d)
+    → own_stock r n (with_spot d x s) ≡ own_stock r n s
 stock-idle r n s d x lt idle none fixture progress =
     ap₂ (λ fs ls. stock r (claims r (by_number fs)) n (own_words r.base r.size s.cells ls) (by_number (own_progress r (set s.spots d x))))
     (fixtures-set r s.spots d x lt fixture) (leases-idle s.spots d x lt idle none)
@@ -70,7 +77,8 @@ stock-idle r n s d x lt idle none fixture progress =
 -- ---- what a program keeps
 
 -- where a place shows the same of the pool's device
-pub kept-spot : (r : Part) (s : Shared) (d : ℕ) (x : Spot) (cells : Cells) → d < length s.spots → IsKept r s → ((k : Kind) → pool_kind r d ≡ Some k → x.fixture ≡ Some (blank_fixture k)) → IsKept r (record { cells = cells; spots = set s.spots d x })
+pub kept-spot : (r : Part) (s : Shared) (d : ℕ) (x : Spot) (cells : Cells) → d < length s.spots → IsKept r s
+    → ((k : Kind) → pool_kind r d ≡ Some k → x.fixture ≡ Some (blank_fixture k)) → IsKept r (record { cells = cells; spots = set s.spots d x })
 kept-spot r s d x cells lt kept there =
     record {
       few = kept.few;
@@ -82,7 +90,8 @@ kept-spot r s d x cells lt kept there =
     }
 
 -- where the device stays
-pub kept-same : (r : Part) (s : Shared) (d : ℕ) (x : Spot) (cells : Cells) → d < length s.spots → IsKept r s → x.fixture ≡ (spot_at s.spots d).fixture → IsKept r (record { cells = cells; spots = set s.spots d x })
+pub kept-same : (r : Part) (s : Shared) (d : ℕ) (x : Spot) (cells : Cells) → d < length s.spots → IsKept r s → x.fixture ≡ (spot_at s.spots d).fixture
+    → IsKept r (record { cells = cells; spots = set s.spots d x })
 kept-same r s d x cells lt kept fixture = kept-spot r s d x cells lt kept (λ k is. fixture ∙ kept.there d k is)
 
 -- neither speaks of the words, or of what a program spooled; the first speaks of no marks
@@ -181,7 +190,8 @@ module _ (q : Part) (s : Shared) (t : ℕ) (kept : IsKept q s) (free : IsFree q 
         ∙ none_kept q.stints t active.none_left))
         (λ (ne : e ≢ t).
         ap₂ (λ b p. cond (owns q.devices e || b) (spot_at s.spots e).progress p) (taken_elsewhere e ne)
-        (none_kept (taker t q).stints e (All-push IsNotLeft q.stints (record { device = t; loan = Lent }) active.none_left refl) ∙ sym (none_kept q.stints e active.none_left)))
+        (none_kept (taker t q).stints e (All-push IsNotLeft q.stints (record { device = t; loan = Lent }) active.none_left refl)
+        ∙ sym (none_kept q.stints e active.none_left)))
         (cases_eq e t))
 
     pub taken_own : IsActive q → (n : ℕ) → own_stock (taker t q) (n + 1) s ≡ taking t (record (own_stock q n s) { asked = n + 1 })
@@ -189,7 +199,21 @@ module _ (q : Part) (s : Shared) (t : ℕ) (kept : IsKept q s) (free : IsFree q 
         ap₂ (λ xs ps. parted xs (by_number ps)) (map_push stint_of q.stints (record { device = t; loan = Lent })) (taken_progress active)
       where
         parted : List Stint → List Progress → Stock
-        parted xs ps = record { claims = record { size = q.size; claimed = set q.claimed t true; fixtures = by_number (own_fixture q s.spots); pool = q.pool; served = q.served }; spooled = q.spooled; asked = n + 1; stints = xs; store = own_words q.base q.size s.cells (leases_of s.spots); devices = ps }
+        parted xs ps = record {
+          claims = record {
+            size = q.size;
+            claimed = set q.claimed t true;
+            fixtures = by_number (own_fixture q s.spots);
+            pool =
+                q.pool;
+            served = q.served;
+          };
+          spooled = q.spooled;
+          asked = n + 1;
+          stints = xs;
+          store = own_words q.base q.size s.cells (leases_of s.spots);
+          devices = ps;
+        }
 
 -- ---- the device of a program leaves it
 
@@ -242,7 +266,8 @@ module _ (q : Part) (s : Shared) (d : ℕ) (inside : d < length s.spots) (kept :
           apart = kept.apart;
           there = at_spot s.spots d (blank_spot was) inside (λ e y. (k : Kind) → pool_kind q e ≡ Some k → y.fixture ≡ Some (blank_fixture k))
               (λ k is. ap (option_map (λ (f : Fixture). blank_fixture f.kind)) (kept.there d k is)) (λ e ne. kept.there e);
-          pooled = All-map (λ (y : Keeping). in_pool q y.device ≡ true) (with_loan d loan) q.stints (λ k z lt. ap (in_pool q) (device_with d loan (get_or q.stints k z)) ∙ kept.pooled k z lt);
+          pooled = All-map (λ (y : Keeping). in_pool q y.device ≡ true) (with_loan d loan) q.stints
+              (λ k z lt. ap (in_pool q) (device_with d loan (get_or q.stints k z)) ∙ kept.pooled k z lt);
           kinds = All-map (λ (y : Keeping). IsOfKind (pool_kind q y.device) y.loan) (with_loan d loan) q.stints
               (λ k z lt. by_open (λ y. IsOfKind (pool_kind q y.device) y.loan) d loan (get_or q.stints k z)
               (λ is. subst (λ e. IsOfKind (pool_kind q e) loan) (sym (eqb-true (get_or q.stints k z).device d (and_parts _ _ is).0)) of_kind)
@@ -309,7 +334,8 @@ module _ (q : Part) (s : Shared) (d : ℕ) (sound : IsSound s) (kept : IsKept q 
     gone_active = given_active q s d gone_inside kept its claimed loan of_kind not_lent
 
   -- what is shown where it is given back
-  gone_progress : IsActive q → by_number (own_progress (giver (set q.claimed d false) d (back_from x) q) (emptied d s).spots) ≡ set (by_number (own_progress q s.spots)) d new_progress
+  gone_progress : IsActive q → by_number (own_progress (giver (set q.claimed d false) d (back_from x) q) (emptied d s).spots)
+      ≡ set (by_number (own_progress q s.spots)) d new_progress
   gone_progress active =
       number-set (own_progress q s.spots) (own_progress (giver (set q.claimed d false) d (back_from x) q) (emptied d s).spots) d new_progress gone_small
       (ap (progress_in (giver (set q.claimed d false) d (back_from x) q) d) (get_or-set_same s.spots d (blank_spot x) no_spot gone_inside)
@@ -317,11 +343,13 @@ module _ (q : Part) (s : Shared) (d : ℕ) (sound : IsSound s) (kept : IsKept q 
       ∙ none_kept (map (with_loan d (back_from x)) q.stints) d (none_left (set q.claimed d false) (back_from x) gone_kind refl refl active))
       (λ e ne.
       ap (progress_in (giver (set q.claimed d false) d (back_from x) q) e) (get_or-set_other s.spots d e (blank_spot x) no_spot ne)
-      ∙ ap₂ (λ b p. cond (owns q.devices e || b) (spot_at s.spots e).progress p) (lends_there q.stints d e (back_from x) ne) (left_there q.stints d e (back_from x) ne))
+      ∙ ap₂ (λ b p. cond (owns q.devices e || b) (spot_at s.spots e).progress p) (lends_there q.stints d e (back_from x) ne)
+      (left_there q.stints d e (back_from x) ne))
 
   pub gone_own : IsActive q → (n : ℕ) → own_stock (giver (set q.claimed d false) d (back_from x) q) n (emptied d s) ≡ begun (Releases true d) (own_stock q n s)
   gone_own active n =
-      ap₂ (λ fs ls. parted (by_number fs) (map stint_of (map (with_loan d (back_from x)) q.stints)) (own_words q.base q.size s.cells ls) (by_number (own_progress (giver (set q.claimed d false) d (back_from x) q) (emptied d s).spots)))
+      ap₂ (λ fs ls. parted (by_number fs) (map stint_of (map (with_loan d (back_from x)) q.stints)) (own_words q.base q.size s.cells ls)
+      (by_number (own_progress (giver (set q.claimed d false) d (back_from x) q) (emptied d s).spots)))
       (fixtures-set q s.spots d (blank_spot x) gone_inside (λ has. cc (sym (kept.apart d has) ∙ its.pooled)))
       (leases-idle s.spots d (blank_spot x) gone_inside its.idle refl)
       ∙ ap₂ (λ xs ps. parted (by_number (own_fixture q s.spots)) xs (own_words q.base q.size s.cells (leases_of s.spots)) ps)
@@ -330,21 +358,32 @@ module _ (q : Part) (s : Shared) (d : ℕ) (sound : IsSound s) (kept : IsKept q 
       (gone_progress active)
     where
       parted : List (Option Fixture) → List Stint → List ℕ → List Progress → Stock
-      parted fs xs ws ps = record { claims = record { size = q.size; claimed = set q.claimed d false; fixtures = fs; pool = q.pool; served = q.served }; spooled = q.spooled; asked = n; stints = xs; store = ws; devices = ps }
+      parted fs xs ws ps = record {
+        claims = record { size = q.size; claimed = set q.claimed d false; fixtures = fs; pool = q.pool; served = q.served };
+        spooled = q.spooled;
+        asked = n;
+        stints = xs;
+        store = ws;
+        devices = ps;
+      }
 
   -- nothing, where the program is over and keeps it
   left_progress : own_progress (giver q.claimed d (Left (fixture_or x.fixture) x.progress) q) (emptied d s).spots ≡ own_progress q s.spots
   left_progress =
       fun_ext
-      (at_spot s.spots d (blank_spot x) gone_inside (λ e y. progress_in (giver q.claimed d (Left (fixture_or x.fixture) x.progress) q) e y ≡ own_progress q s.spots e)
-      (ap (λ b. cond b new_progress (left_in (map (with_loan d (Left (fixture_or x.fixture) x.progress)) q.stints) d)) (gone_from q.claimed (Left (fixture_or x.fixture) x.progress) gone_kind refl)
+      (at_spot s.spots d (blank_spot x) gone_inside (λ e y. progress_in (giver q.claimed d (Left (fixture_or x.fixture) x.progress) q) e y
+      ≡ own_progress q s.spots e)
+      (ap (λ b. cond b new_progress (left_in (map (with_loan d (Left (fixture_or x.fixture) x.progress)) q.stints) d))
+      (gone_from q.claimed (Left (fixture_or x.fixture) x.progress) gone_kind refl)
       ∙ left_here q.stints d (fixture_or x.fixture) x.progress gone_open
       ∙ sym (ap (λ b. cond b x.progress (left_in q.stints d)) has_it))
-      (λ e ne. ap₂ (λ b p. cond (owns q.devices e || b) (spot_at s.spots e).progress p) (lends_there q.stints d e (Left (fixture_or x.fixture) x.progress) ne) (left_there q.stints d e (Left (fixture_or x.fixture) x.progress) ne)))
+      (λ e ne. ap₂ (λ b p. cond (owns q.devices e || b) (spot_at s.spots e).progress p) (lends_there q.stints d e (Left (fixture_or x.fixture) x.progress) ne)
+      (left_there q.stints d e (Left (fixture_or x.fixture) x.progress) ne)))
 
   pub left_own : (n : ℕ) → own_stock (giver q.claimed d (Left (fixture_or x.fixture) x.progress) q) n (emptied d s) ≡ own_stock q n s
   left_own n =
-      ap₂ (λ fs ls. parted (by_number fs) (map stint_of (map (with_loan d (Left (fixture_or x.fixture) x.progress)) q.stints)) (own_words q.base q.size s.cells ls) (by_number (own_progress (giver q.claimed d (Left (fixture_or x.fixture) x.progress) q) (emptied d s).spots)))
+      ap₂ (λ fs ls. parted (by_number fs) (map stint_of (map (with_loan d (Left (fixture_or x.fixture) x.progress)) q.stints))
+      (own_words q.base q.size s.cells ls) (by_number (own_progress (giver q.claimed d (Left (fixture_or x.fixture) x.progress) q) (emptied d s).spots)))
       (fixtures-set q s.spots d (blank_spot x) gone_inside (λ has. cc (sym (kept.apart d has) ∙ its.pooled)))
       (leases-idle s.spots d (blank_spot x) gone_inside its.idle refl)
       ∙ ap₂ (λ xs ps. parted (by_number (own_fixture q s.spots)) xs (own_words q.base q.size s.cells (leases_of s.spots)) (by_number ps))

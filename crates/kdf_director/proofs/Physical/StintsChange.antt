@@ -1,7 +1,8 @@
 -- The stints of a program, after one more, and after the device of one left its place.
 use Rattle.std.specs.Prelude.{find}
 use Rattle.std.specs.List.{All, AllPairs, list_any}
-use Rattle.std.proofs.Common.{◌≡◌, ◌≢◌, ℕ, ◌<◌, ◌≤◌, ◌&&◌, ◌||◌, not, Bool, true, false, List, [], ◌∷◌, ◌++◌, length, get_or, map, set, Some, is_some, cond, eqb, refl, sym, ap, ap₂, ◌∙◌, subst, ⊎_elim, arith}
+use Rattle.std.proofs.Common.{◌≡◌, ◌≢◌, ℕ, ◌<◌, ◌≤◌, ◌&&◌, ◌||◌, not, Bool, true, false, List, [], ◌∷◌, ◌++◌, length, get_or, map, set, Some, is_some, cond}
+use Rattle.std.proofs.Common.{eqb, refl, sym, ap, ap₂, ◌∙◌, subst, ⊎_elim, arith}
 use Rattle.std.proofs.lemmas.Bool.{and_from, and_parts, cases_eq, cases_lt, eq-eqb, eqb-true, false_from_ne_true, ne_eqb, or_parts}
 use Rattle.std.proofs.lemmas.List.{ext_get_or, get_or-map, get_or-set_other, get_or-set_same, length-map, length-set}
 use Rattle.std.proofs.lemmas.List.Elements.{All-cons, All-head, All-map, All-nil, All-tail}
@@ -10,7 +11,8 @@ use Rattle.std.proofs.lemmas.List.Quantifiers.{all_pairs_push}
 use Rattle.kdf_transfer.specs.Devices.{Fixture, Progress, new_progress}
 use Rattle.kdf_processor.specs.Row.{handed}
 use Rattle.kdf_processor.specs.State.{Stint}
-use Rattle.kdf_director.specs.Fields.Stints.{Keeping, Loan, Lent, Left, Back, is_left, is_lent, is_open, is_open_of, left_in, lends, progress_left, stint_of, with_loan}
+use Rattle.kdf_director.specs.Fields.Stints.{Keeping, Loan, Lent, Left, Back, is_left, is_lent, is_open, is_open_of, left_in, lends, progress_left, stint_of}
+use Rattle.kdf_director.specs.Fields.Stints.{with_loan}
 
 -- the program hasn't kept the device
 abbrev pub IsNotLeft : Keeping → Type 0
@@ -21,7 +23,8 @@ abbrev pub AreApart : Keeping → Keeping → Type 0
 AreApart x y = is_open x.loan ≡ true → is_open y.loan ≡ true → x.device ≢ y.device
 
 -- a stint whose device is elsewhere: it is its own, or another's, or was given back
-pub by_open : (P : Keeping → Type 0) (d : ℕ) (loan : Loan) (x : Keeping) → (is_open_of d x ≡ true → P (record x { loan = loan })) → (is_open_of d x ≡ false → P x) → P (with_loan d loan x)
+pub by_open : (P : Keeping → Type 0) (d : ℕ) (loan : Loan) (x : Keeping) → (is_open_of d x ≡ true → P (record x { loan = loan }))
+    → (is_open_of d x ≡ false → P x) → P (with_loan d loan x)
 by_open P d loan x its other = of (is_open_of d x) refl
   where
     of : (b : Bool) → is_open_of d x ≡ b → P (cond b (record x { loan = loan }) x)
@@ -53,7 +56,8 @@ and_none false c none = refl
 pub none_kept : (xs : List Keeping) (d : ℕ) → All IsNotLeft xs → left_in xs d ≡ new_progress
 none_kept [] d none = refl
 none_kept (x ∷ xs) d none =
-    ap (λ b. progress_left (cond b (Some x) (find (λ (y : Keeping). eqb y.device d && is_left y.loan) xs))) (and_none (eqb x.device d) (is_left x.loan) (All-head IsNotLeft x xs none))
+    ap (λ b. progress_left (cond b (Some x) (find (λ (y : Keeping). eqb y.device d && is_left y.loan) xs)))
+    (and_none (eqb x.device d) (is_left x.loan) (All-head IsNotLeft x xs none))
     ∙ none_kept xs d (All-tail IsNotLeft x xs none)
 
 -- the device that it keeps
@@ -67,7 +71,8 @@ left_here (x ∷ xs) d f p is = of (is_open_of d x) refl (left_here xs d f p)
     of : (b : Bool) → is_open_of d x ≡ b → (list_any (is_open_of d) xs ≡ true → left_in rest d ≡ p) → left_in (with_loan d (Left f p) x ∷ rest) d ≡ p
     of true its later =
         ap (λ b. left_in (cond b (record x { loan = Left f p }) x ∷ rest) d) its
-        ∙ ap (λ b. progress_left (cond (b && true) (Some (let y : Keeping = record x { loan = Left f p } in y)) (find (λ (y : Keeping). eqb y.device d && is_left y.loan) rest))) (and_parts _ _ its).0
+        ∙ ap (λ b. progress_left (cond (b && true) (Some (let y : Keeping = record x { loan = Left f p } in y))
+        (find (λ (y : Keeping). eqb y.device d && is_left y.loan) rest))) (and_parts _ _ its).0
     of false other later =
         ap (λ b. left_in (cond b (record x { loan = Left f p }) x ∷ rest) d) other
         ∙ ap (λ b. progress_left (cond b (Some x) (find (λ (y : Keeping). eqb y.device d && is_left y.loan) rest))) (open_left (eqb x.device d) x.loan other)
@@ -81,7 +86,8 @@ left_there (x ∷ xs) d e loan ne = of (is_open_of d x) refl (left_there xs d e 
     rest : List Keeping
     rest = map (with_loan d loan) xs
 
-    by_head : (b : Bool) → left_in rest e ≡ left_in xs e → progress_left (cond b (Some x) (find (λ (y : Keeping). eqb y.device e && is_left y.loan) rest)) ≡ progress_left (cond b (Some x) (find (λ (y : Keeping). eqb y.device e && is_left y.loan) xs))
+    by_head : (b : Bool) → left_in rest e ≡ left_in xs e → progress_left (cond b (Some x) (find (λ (y : Keeping). eqb y.device e && is_left y.loan) rest))
+        ≡ progress_left (cond b (Some x) (find (λ (y : Keeping). eqb y.device e && is_left y.loan) xs))
     by_head true later = refl
     by_head false later = later
 
@@ -89,7 +95,8 @@ left_there (x ∷ xs) d e loan ne = of (is_open_of d x) refl (left_there xs d e 
     of true its later =
         let off : eqb x.device e ≡ false = ne_eqb x.device e (λ same. ne (sym same ∙ eqb-true x.device d (and_parts _ _ its).0)) in
         ap (λ b. left_in (cond b (record x { loan = loan }) x ∷ rest) e) its
-        ∙ ap (λ b. progress_left (cond (b && is_left loan) (Some (let y : Keeping = record x { loan = loan } in y)) (find (λ (y : Keeping). eqb y.device e && is_left y.loan) rest))) off
+        ∙ ap (λ b. progress_left (cond (b && is_left loan) (Some (let y : Keeping = record x { loan = loan } in y))
+        (find (λ (y : Keeping). eqb y.device e && is_left y.loan) rest))) off
         ∙ later
         ∙ sym (ap (λ b. progress_left (cond (b && is_left x.loan) (Some x) (find (λ (y : Keeping). eqb y.device e && is_left y.loan) xs))) off)
     of false other later =
@@ -130,7 +137,8 @@ pub lends_open : (xs : List Keeping) (d : ℕ) → lends xs d ≡ true → list_
 lends_open [] d is = cc
 lends_open (x ∷ xs) d is = of (eqb x.device d) x.loan (lends xs d) is (λ rest. lends_open xs d rest)
   where
-    of : (b : Bool) (l : Loan) (c : Bool) → ((b && is_lent l) || c) ≡ true → (c ≡ true → list_any (is_open_of d) xs ≡ true) → ((b && is_open l) || list_any (is_open_of d) xs) ≡ true
+    of : (b : Bool) (l : Loan) (c : Bool) → ((b && is_lent l) || c) ≡ true → (c ≡ true → list_any (is_open_of d) xs ≡ true)
+        → ((b && is_open l) || list_any (is_open_of d) xs) ≡ true
     of true Lent c is rest = refl
     of true (Left f p) c is rest = refl
     of true (Back f p) c is rest = rest is
@@ -143,7 +151,8 @@ stints_back [] d f p = refl
 stints_back (x ∷ xs) d f p =
     ap₂ (λ (y : Stint) ys. y ∷ ys) (of (eqb x.device d) x.loan) (stints_back xs d f p)
   where
-    of : (b : Bool) (l : Loan) → stint_of (cond (b && is_open l) (record { device = x.device; loan = Back f p }) (record { device = x.device; loan = l })) ≡ (let y : Stint = stint_of (record { device = x.device; loan = l }) in cond (b && not (is_some y.left)) (record y { left = Some p }) y)
+    of : (b : Bool) (l : Loan) → stint_of (cond (b && is_open l) (record { device = x.device; loan = Back f p }) (record { device = x.device; loan = l }))
+        ≡ (let y : Stint = stint_of (record { device = x.device; loan = l }) in cond (b && not (is_some y.left)) (record y { left = Some p }) y)
     of true Lent = refl
     of true (Left g q) = refl
     of true (Back g q) = refl
@@ -154,7 +163,8 @@ stints_left [] d f p = refl
 stints_left (x ∷ xs) d f p =
     ap₂ (λ (y : Stint) ys. y ∷ ys) (of (eqb x.device d) x.loan) (stints_left xs d f p)
   where
-    of : (b : Bool) (l : Loan) → stint_of (cond (b && is_open l) (record { device = x.device; loan = Left f p }) (record { device = x.device; loan = l })) ≡ stint_of (record { device = x.device; loan = l })
+    of : (b : Bool) (l : Loan) → stint_of (cond (b && is_open l) (record { device = x.device; loan = Left f p }) (record { device = x.device; loan = l }))
+        ≡ stint_of (record { device = x.device; loan = l })
     of true Lent = refl
     of true (Left g q) = refl
     of true (Back g q) = refl
@@ -182,7 +192,8 @@ open_others [] d none unlent = All-nil (λ (x : Keeping). is_open x.loan ≡ tru
 open_others (x ∷ xs) d none unlent =
     let parts = or_parts (eqb x.device d && is_lent x.loan) (lends xs d) unlent in
     All-cons (λ (y : Keeping). is_open y.loan ≡ true → y.device ≢ d) x xs
-    (λ unreturned same. cc (sym parts.0 ∙ and_from (eqb x.device d) (is_lent x.loan) (eq-eqb x.device d same) (lent x.loan (All-head IsNotLeft x xs none) unreturned)))
+    (λ unreturned same. cc (sym parts.0 ∙ and_from (eqb x.device d) (is_lent x.loan) (eq-eqb x.device d same)
+    (lent x.loan (All-head IsNotLeft x xs none) unreturned)))
     (open_others xs d (All-tail IsNotLeft x xs none) parts.1)
   where
     lent : (l : Loan) → is_left l ≡ false → is_open l ≡ true → is_lent l ≡ true
@@ -190,13 +201,15 @@ open_others (x ∷ xs) d none unlent =
     lent (Left f p) a b = cc
     lent (Back f p) a b = cc
 
-pub apart_push : (xs : List Keeping) (d : ℕ) → AllPairs AreApart xs → All (λ (x : Keeping). is_open x.loan ≡ true → x.device ≢ d) xs → AllPairs AreApart (xs ++ record { device = d; loan = Lent } ∷ [])
+pub apart_push : (xs : List Keeping) (d : ℕ) → AllPairs AreApart xs → All (λ (x : Keeping). is_open x.loan ≡ true → x.device ≢ d) xs
+    → AllPairs AreApart (xs ++ record { device = d; loan = Lent } ∷ [])
 apart_push xs d one others =
     all_pairs_push AreApart xs (record { device = d; loan = Lent }) one
     (λ k z lt unreturned _. others k z lt unreturned)
 
 -- where no two open stints are of one device, another loan of one is that of its device
-pub set_one : (xs : List Keeping) (n : ℕ) (z : Keeping) (loan : Loan) → AllPairs AreApart xs → n < length xs → is_open (get_or xs n z).loan ≡ true → set xs n (record (get_or xs n z) { loan = loan }) ≡ map (with_loan (get_or xs n z).device loan) xs
+pub set_one : (xs : List Keeping) (n : ℕ) (z : Keeping) (loan : Loan) → AllPairs AreApart xs → n < length xs → is_open (get_or xs n z).loan ≡ true
+    → set xs n (record (get_or xs n z) { loan = loan }) ≡ map (with_loan (get_or xs n z).device loan) xs
 set_one xs n z loan one lt unreturned =
     ext_get_or z _ _
     (length-set xs n new ∙ sym (length-map xs w))

@@ -1,5 +1,6 @@
 -- The stints of a program are those of its state.
-use Rattle.std.proofs.Common.{◌≡◌, ◌≢◌, ℕ, zero, suc, ◌<◌, ◌≤◌, Bool, true, false, ◌&&◌, ◌||◌, eqb, not, List, [], ◌∷◌, length, get_or, map, Option, Some, None, is_some, cond, refl, sym, ap, ◌∙◌, subst, ⊎_elim, arith}
+use Rattle.std.proofs.Common.{◌≡◌, ◌≢◌, ℕ, zero, suc, ◌<◌, ◌≤◌, Bool, true, false, ◌&&◌, ◌||◌, eqb, not, List, [], ◌∷◌, length, get_or, map, Option, Some, None}
+use Rattle.std.proofs.Common.{is_some, cond, refl, sym, ap, ◌∙◌, subst, ⊎_elim, arith}
 use Rattle.std.specs.List.{AllPairs}
 use Rattle.std.specs.Option.{option_map}
 use Rattle.std.proofs.lemmas.Bool.{and_parts, cases_Bool, cases_eq, cases_lt, eq-eqb, eqb-true, or_right}
@@ -18,7 +19,8 @@ use Rattle.kdf_director.specs.Fields.Parts.{Part, in_pool, own_progress, own_sto
 use Rattle.kdf_theory.specs.Loading.{owns}
 use Rattle.kdf_places.specs.Shared.{Shared}
 use Rattle.kdf_places.specs.Spots.{fixture_or, spot_at}
-use Rattle.kdf_director.specs.Fields.Stints.{Keeping, IsOfKind, Loan, Lent, Left, Back, is_left, is_lent, is_open, kept_by, left_in, lends, no_keeping, progress_back, progress_left, stint_of}
+use Rattle.kdf_director.specs.Fields.Stints.{Keeping, IsOfKind, Loan, Lent, Left, Back, is_left, is_lent, is_open, kept_by, left_in, lends, no_keeping}
+use Rattle.kdf_director.specs.Fields.Stints.{progress_back, progress_left, stint_of}
 use Rattle.kdf_director.proofs.Physical.FirstFound.{any_none, any_there}
 use Rattle.kdf_transfer.proofs.Numbers.{number_at}
 
@@ -36,7 +38,8 @@ open_lent (Left f p) is = cc
 open_lent (Back f p) is = cc
 
 -- what a program has kept of a device is what its one stint has that wasn't given back
-left_at : (xs : List Keeping) → AllPairs AreApart xs → (i : ℕ) (f : Fixture) (p : Progress) → i < length xs → (get_or xs i no_keeping).loan ≡ Left f p → left_in xs (get_or xs i no_keeping).device ≡ p
+left_at : (xs : List Keeping) → AllPairs AreApart xs → (i : ℕ) (f : Fixture) (p : Progress) → i < length xs → (get_or xs i no_keeping).loan ≡ Left f p
+    → left_in xs (get_or xs i no_keeping).device ≡ p
 left_at [] apart i f p lt is = absurd (omega arith)
 left_at (x ∷ xs) apart zero f p lt is =
     ap (λ b. progress_left (cond b (Some x) (find (λ (y : Keeping). eqb y.device x.device && is_left y.loan) xs)))
@@ -54,12 +57,14 @@ left_at (x ∷ xs) apart (suc i) f p lt is =
         ⊎_elim
         (λ (both : (eqb x.device d && is_left x.loan) ≡ true).
         let parts = and_parts (eqb x.device d) (is_left x.loan) both in
-        absurd (apart zero (suc i) no_keeping (omega arith) lt (open_left x.loan parts.1) (open_left (get_or xs i no_keeping).loan (ap is_left is)) (eqb-true x.device d parts.0)))
+        absurd (apart zero (suc i) no_keeping (omega arith) lt (open_left x.loan parts.1) (open_left (get_or xs i no_keeping).loan (ap is_left is))
+        (eqb-true x.device d parts.0)))
         (λ (not_both : (eqb x.device d && is_left x.loan) ≡ false). not_both)
         (cases_Bool (eqb x.device d && is_left x.loan))
 
 -- and it is in no place then
-not_lent : (xs : List Keeping) → AllPairs AreApart xs → (i : ℕ) → i < length xs → is_left (get_or xs i no_keeping).loan ≡ true → lends xs (get_or xs i no_keeping).device ≡ false
+not_lent : (xs : List Keeping) → AllPairs AreApart xs → (i : ℕ) → i < length xs → is_left (get_or xs i no_keeping).loan ≡ true
+    → lends xs (get_or xs i no_keeping).device ≡ false
 not_lent xs apart i lt left =
     ⊎_elim
     (λ (is : lends xs d ≡ true).
@@ -96,7 +101,8 @@ lent_at xs i lt lent =
     ⊎_elim
     (λ (is : lends xs d ≡ true). is)
     (λ (not_is : lends xs d ≡ false).
-    cc (sym (any_none (λ (y : Keeping). eqb y.device d && is_lent y.loan) xs no_keeping not_is i lt) ∙ ap (λ b. b && is_lent (get_or xs i no_keeping).loan) (eq-eqb d d refl) ∙ lent))
+    cc (sym (any_none (λ (y : Keeping). eqb y.device d && is_lent y.loan) xs no_keeping not_is i lt)
+    ∙ ap (λ b. b && is_lent (get_or xs i no_keeping).loan) (eq-eqb d d refl) ∙ lent))
     (cases_Bool (lends xs d))
   where
     d : ℕ
@@ -125,20 +131,26 @@ module _ (q : Part) (n : ℕ) (s : Shared) (kept : IsKept q s) (i : ℕ) (lt : i
 
   -- it is none of the slot's
   not_own : owns q.devices x.device ≡ false
-  not_own = ⊎_elim (λ (own : owns q.devices x.device ≡ true). cc (sym (kept.apart x.device own) ∙ pooled)) (λ (not_so : owns q.devices x.device ≡ false). not_so) (cases_Bool (owns q.devices x.device))
+  not_own = ⊎_elim (λ (own : owns q.devices x.device ≡ true). cc (sym (kept.apart x.device own) ∙ pooled))
+      (λ (not_so : owns q.devices x.device ≡ false). not_so) (cases_Bool (owns q.devices x.device))
 
   in_place : is_lent x.loan ≡ true → own_progress q s.spots x.device ≡ (spot_at s.spots x.device).progress
-  in_place lent = ap (λ b. cond b (spot_at s.spots x.device).progress (left_in q.stints x.device)) (or_right (owns q.devices x.device) (lends q.stints x.device) (lent_at q.stints i lt lent))
+  in_place lent = ap (λ b. cond b (spot_at s.spots x.device).progress (left_in q.stints x.device))
+      (or_right (owns q.devices x.device) (lends q.stints x.device) (lent_at q.stints i lt lent))
 
   kept_back : (f : Fixture) (p : Progress) → x.loan ≡ Left f p → own_progress q s.spots x.device ≡ p
   kept_back f p is =
-      ap (λ b. cond b (spot_at s.spots x.device).progress (left_in q.stints x.device)) (ap (λ b. b || lends q.stints x.device) not_own ∙ not_lent q.stints kept.one i lt (ap is_left is))
+      ap (λ b. cond b (spot_at s.spots x.device).progress (left_in q.stints x.device)) (ap (λ b. b || lends q.stints x.device) not_own
+      ∙ not_lent q.stints kept.one i lt (ap is_left is))
       ∙ left_at q.stints kept.one i f p lt is
 
-  of_kind : (l : Loan) → x.loan ≡ l → (f : Fixture) → IsOfKind (pool_kind q x.device) l → fixture_told l (spot_at s.spots x.device) ≡ f → f ≡ blank_fixture kind.0
+  of_kind : (l : Loan) → x.loan ≡ l → (f : Fixture) → IsOfKind (pool_kind q x.device) l → fixture_told l (spot_at s.spots x.device) ≡ f
+      → f ≡ blank_fixture kind.0
   of_kind Lent is f fits told = sym told ∙ ap fixture_or (kept.there x.device kind.0 kind.1)
-  of_kind (Left g p) is f fits told = let e : Some g ≡ Some (blank_fixture kind.0) = sym fits ∙ ap (option_map blank_fixture) kind.1 in let h : g ≡ blank_fixture kind.0 = cc in sym told ∙ h
-  of_kind (Back g p) is f fits told = let e : Some g ≡ Some (blank_fixture kind.0) = sym fits ∙ ap (option_map blank_fixture) kind.1 in let h : g ≡ blank_fixture kind.0 = cc in sym told ∙ h
+  of_kind (Left g p) is f fits told = let e : Some g ≡ Some (blank_fixture kind.0) = sym fits ∙ ap (option_map blank_fixture) kind.1 in let h : g
+      ≡ blank_fixture kind.0 = cc in sym told ∙ h
+  of_kind (Back g p) is f fits told = let e : Some g ≡ Some (blank_fixture kind.0) = sym fits ∙ ap (option_map blank_fixture) kind.1 in let h : g
+      ≡ blank_fixture kind.0 = cc in sym told ∙ h
 
   by_loan : (l : Loan) → x.loan ≡ l → (p : Progress) → progress_told l (spot_at s.spots x.device) ≡ p → p ≡ (lending_of (own_stock q n s) (stint_of x)).progress
   by_loan Lent is p told =
@@ -166,22 +178,28 @@ module _ (q : Part) (n : ℕ) (s : Shared) (kept : IsKept q s) (i : ℕ) (lt : i
       }
 
 -- so for whatever stands for a stint that there isn't
-pub there_lent_any : (q : Part) (s : Shared) → IsKept q s → (j : ℕ) (k : Keeping) → j < length q.stints → is_lent (get_or q.stints j k).loan ≡ true → is_some (spot_at s.spots (get_or q.stints j k).device).fixture ≡ true
+pub there_lent_any : (q : Part) (s : Shared) → IsKept q s → (j : ℕ) (k : Keeping) → j < length q.stints → is_lent (get_or q.stints j k).loan ≡ true
+    → is_some (spot_at s.spots (get_or q.stints j k).device).fixture ≡ true
 there_lent_any q s kept j k lt lent =
     let kind = some_there (pool_kind q (get_or q.stints j k).device) (kept.pooled j k lt) in
     ap is_some (kept.there (get_or q.stints j k).device kind.0 kind.1)
 
 -- a stint of the state
-pub stint_in_own : (q : Part) (n : ℕ) (s : Shared) → IsKept q s → (i d : ℕ) (given : Bool) (device : Device) → IsTold s.spots (get_or q.stints i no_keeping) d given device → IfSome (slice_get (lendings (own_stock q n s)) i) (λ l. IsStint l d given device)
+pub stint_in_own : (q : Part) (n : ℕ) (s : Shared) → IsKept q s → (i d : ℕ) (given : Bool) (device : Device)
+    → IsTold s.spots (get_or q.stints i no_keeping) d given device → IfSome (slice_get (lendings (own_stock q n s)) i) (λ l. IsStint l d given device)
 unfolding lendings
 stint_in_own q n s kept i d given device told =
     ⊎_elim
     (λ (lt : i < length q.stints).
     subst (λ o. IfSome o (λ l. IsStint l d given device)) (sym (got lt)) (is_stint q n s kept i lt d given device told))
-    (λ (past : length q.stints ≤ i). subst (λ o. IfSome o (λ l. IsStint l d given device)) (sym (slice_get_past (map (lending_of (own_stock q n s)) (map stint_of q.stints)) i (omega (arith, length-map (map stint_of q.stints) (lending_of (own_stock q n s)), length-map q.stints stint_of)))) tt)
+    (λ (past : length q.stints ≤ i). subst (λ o. IfSome o (λ l. IsStint l d given device))
+    (sym (slice_get_past (map (lending_of (own_stock q n s)) (map stint_of q.stints)) i
+    (omega (arith, length-map (map stint_of q.stints) (lending_of (own_stock q n s)), length-map q.stints stint_of)))) tt)
     (cases_lt i (length q.stints))
   where
-    got : i < length q.stints → slice_get (map (lending_of (own_stock q n s)) (map stint_of q.stints)) i ≡ Some (lending_of (own_stock q n s) (stint_of (get_or q.stints i no_keeping)))
+    got : i < length q.stints → slice_get (map (lending_of (own_stock q n s)) (map stint_of q.stints)) i
+        ≡ Some (lending_of (own_stock q n s) (stint_of (get_or q.stints i no_keeping)))
     got lt =
         slice_get-map (lending_of (own_stock q n s)) (map stint_of q.stints) i
-        ∙ ap (option_map (lending_of (own_stock q n s))) (slice_get-map stint_of q.stints i ∙ ap (option_map stint_of) (slice_get-get_or q.stints i no_keeping lt))
+        ∙ ap (option_map (lending_of (own_stock q n s))) (slice_get-map stint_of q.stints i
+        ∙ ap (option_map stint_of) (slice_get-get_or q.stints i no_keeping lt))

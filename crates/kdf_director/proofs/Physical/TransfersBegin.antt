@@ -16,11 +16,13 @@ use Rattle.kdf_places.specs.Transfers.{IsFreeArea}
 use Rattle.kdf_director.proofs.Physical.ShiftedRanges.{find_shift}
 
 -- the groups of an order's area, none of which is out
-pub free_groups : (p : ℕ → Bool) (o : TransferOrder) (first last : ℕ) → find p (order_groups o first last) ≡ None → has_area o ≡ true → find p (groups_of first last) ≡ None
+pub free_groups : (p : ℕ → Bool) (o : TransferOrder) (first last : ℕ) → find p (order_groups o first last) ≡ None → has_area o ≡ true
+    → find p (groups_of first last) ≡ None
 free_groups p o first last none has = ap (λ b. find p (cond b (groups_of first last) [])) (sym has) ∙ none
 
 -- a device without a transfer, and an area none of whose groups is out
-pub free_start : (v : View) (d : ℕ) (o : TransferOrder) (first last : ℕ) → first_pending v (Device d ∷ map Group (order_groups o first last)) ≡ None → (v.is_busy d ≡ false) × (find v.is_out (order_groups o first last) ≡ None)
+pub free_start : (v : View) (d : ℕ) (o : TransferOrder) (first last : ℕ) → first_pending v (Device d ∷ map Group (order_groups o first last)) ≡ None
+    → (v.is_busy d ≡ false) × (find v.is_out (order_groups o first last) ≡ None)
 free_start v d o first last none = (busy, none_out_behind v d (order_groups o first last) none)
   where
     busy : v.is_busy d ≡ false
@@ -31,7 +33,8 @@ free_start v d o first last none = (busy, none_out_behind v d (order_groups o fi
         (cases_Bool (v.is_busy d))
 
 -- the area of a transfer that may begin, in places of the store
-pub free_area : (cells : Cells) (base size first last : ℕ) → base % 32 ≡ 0 → base + size ≤ 32 * length cells → IsArea first last size → find (λ g. is_out cells (base / 32 + g)) (groups_of first last) ≡ None → IsFreeArea cells (base + first) (base + last)
+pub free_area : (cells : Cells) (base size first last : ℕ) → base % 32 ≡ 0 → base + size ≤ 32 * length cells → IsArea first last size
+    → find (λ g. is_out cells (base / 32 + g)) (groups_of first last) ≡ None → IsFreeArea cells (base + first) (base + last)
 free_area cells base size first last at fits area none =
     let rising = area.rising in
     let inside = area.inside in

@@ -1,6 +1,7 @@
 -- Words move, and transfers end: what is shown of the programs, and the groups.
 use Rattle.std.specs.Option.{option_map}
-use Rattle.std.proofs.Common.{◌≡◌, ◌≢◌, ℕ, ◌+◌, ◌-◌, ◌/◌, ◌<◌, ◌≤◌, ◌⊎◌, inl, inr, true, false, List, [], ◌∷◌, length, take, drop, Option, Some, None, is_some, cond, refl, sym, ap, ap₂, ◌∙◌, subst, ⊎_elim, arith}
+use Rattle.std.proofs.Common.{◌≡◌, ◌≢◌, ℕ, ◌+◌, ◌-◌, ◌/◌, ◌<◌, ◌≤◌, ◌⊎◌, inl, inr, true, false, List, [], ◌∷◌, length, take, drop, Option, Some, None, is_some}
+use Rattle.std.proofs.Common.{cond, refl, sym, ap, ap₂, ◌∙◌, subst, ⊎_elim, arith}
 use Rattle.std.proofs.Math.Path.{fun_ext}
 use Rattle.std.proofs.lemmas.Bool.{cases_Bool, cases_eq, and_from, le-leb, lt-ltb}
 use Rattle.std.proofs.lemmas.List.{length-set}
@@ -20,7 +21,8 @@ use Rattle.kdf_places.specs.Transfers.{moved_held, moved_spot, after_move, fligh
 use Rattle.kdf_director.specs.Fields.Sound.{IsFlightOf}
 use Rattle.kdf_director.proofs.Physical.OrdersAct.{stock, claims, fixtures-set, progress-set}
 use Rattle.kdf_places.proofs.GroupsKept.{leases-set}
-use Rattle.kdf_places.proofs.WordsPut.{shift, AreWithin, within-drop, within-take, within-addressed, shift-addressed, shift-drop, shift-take, has-with, full-with, IsLentAlone, HasAll, puts_own, puts_other}
+use Rattle.kdf_places.proofs.WordsPut.{shift, AreWithin, within-drop, within-take, within-addressed, shift-addressed, shift-drop, shift-take, has-with}
+use Rattle.kdf_places.proofs.WordsPut.{full-with, IsLentAlone, HasAll, puts_own, puts_other}
 
 -- a lease after some words
 pub has-put : (ms : List (ℕ × ℕ)) (l : Lent) (g : ℕ) → has_group (Some (put_words ms l)) g ≡ has_group (Some l) g
@@ -59,7 +61,8 @@ some_there None h = cc
 some_there (Some x) h = (x, refl)
 
 -- words move in the flight on device d of program q
-module _ (s : Shared) (q : Part) (d : ℕ) (h : Held) (n : ℕ) (sound : IsSound s) (small : d < device_count) (flies : (spot_at s.spots d).flight ≡ Some h) (is_of : IsFlightOf q d (spot_at s.spots d) h) where
+module _ (s : Shared) (q : Part) (d : ℕ) (h : Held) (n : ℕ) (sound : IsSound s) (small : d < device_count) (flies : (spot_at s.spots d).flight ≡ Some h)
+    (is_of : IsFlightOf q d (spot_at s.spots d) h) where
   abbrev t : Motion
   t = h.motion
 
@@ -140,7 +143,8 @@ module _ (s : Shared) (q : Part) (d : ℕ) (h : Held) (n : ℕ) (sound : IsSound
         ap (own_words q.base q.size s.cells) (leases_later ∙ ap (λ k. with_lease d k (leases_of s.spots)) later_lease)
         ∙ puts_own s.cells d q.base q.size (t.first - q.base) (t.last - q.base) moves l (leases_of s.spots) small lent all (moves_within has)
 
-    pub input_other : (r : Part) → (q.base + q.size ≤ r.base) ⊎ (r.base + r.size ≤ q.base) → own_words r.base r.size s.cells (leases_of (after_move d n s).spots) ≡ own_words r.base r.size s.cells (leases_of s.spots)
+    pub input_other : (r : Part) → (q.base + q.size ≤ r.base) ⊎ (r.base + r.size ≤ q.base)
+        → own_words r.base r.size s.cells (leases_of (after_move d n s).spots) ≡ own_words r.base r.size s.cells (leases_of s.spots)
     input_other r apart =
         let covers = is_of.covers has in
         let rising = covers.rising in
@@ -162,14 +166,17 @@ module _ (s : Shared) (q : Part) (d : ℕ) (h : Held) (n : ℕ) (sound : IsSound
       (cases_eq e d))
 
   -- the words of the program, and of another
-  pub move_words_own : own_words q.base q.size s.cells (leases_of (after_move d n s).spots) ≡ written (flight_moves q.base n t) (own_words q.base q.size s.cells (leases_of s.spots))
+  pub move_words_own : own_words q.base q.size s.cells (leases_of (after_move d n s).spots) ≡ written (flight_moves q.base n t)
+      (own_words q.base q.size s.cells (leases_of s.spots))
   move_words_own =
       ⊎_elim
       (λ (is : is_input t.order ≡ true). input_own is ∙ sym (ap (λ b. written (cond b moves []) (own_words q.base q.size s.cells (leases_of s.spots))) is))
-      (λ (not : is_input t.order ≡ false). ap (own_words q.base q.size s.cells) (other_leases not) ∙ sym (ap (λ b. written (cond b moves []) (own_words q.base q.size s.cells (leases_of s.spots))) not))
+      (λ (not : is_input t.order ≡ false). ap (own_words q.base q.size s.cells) (other_leases not)
+      ∙ sym (ap (λ b. written (cond b moves []) (own_words q.base q.size s.cells (leases_of s.spots))) not))
       (cases_Bool (is_input t.order))
 
-  pub move_words_other : (r : Part) → (q.base + q.size ≤ r.base) ⊎ (r.base + r.size ≤ q.base) → own_words r.base r.size s.cells (leases_of (after_move d n s).spots) ≡ own_words r.base r.size s.cells (leases_of s.spots)
+  pub move_words_other : (r : Part) → (q.base + q.size ≤ r.base) ⊎ (r.base + r.size ≤ q.base)
+      → own_words r.base r.size s.cells (leases_of (after_move d n s).spots) ≡ own_words r.base r.size s.cells (leases_of s.spots)
   move_words_other r apart =
       ⊎_elim
       (λ (is : is_input t.order ≡ true). input_other is r apart)
@@ -183,10 +190,12 @@ module _ (s : Shared) (q : Part) (d : ℕ) (h : Held) (n : ℕ) (sound : IsSound
   same_progress r = progress-set r s.spots d (moved_spot n x) inside (λ has. refl)
 
   -- what is shown of the program after n words
-  pub moves_own : (m : ℕ) → own_stock q m (after_move d n s) ≡ stock q (own_claims q s) m (written (flight_moves q.base n t) (own_words q.base q.size s.cells (leases_of s.spots))) (by_number (own_progress q s.spots))
+  pub moves_own : (m : ℕ) → own_stock q m (after_move d n s) ≡ stock q (own_claims q s) m
+      (written (flight_moves q.base n t) (own_words q.base q.size s.cells (leases_of s.spots))) (by_number (own_progress q s.spots))
   moves_own m =
       ap₂ (λ fs ws. stock q (claims q (by_number fs)) m ws (by_number (own_progress q (after_move d n s).spots))) (same_fixtures q) move_words_own
-      ∙ ap (λ ps. stock q (own_claims q s) m (written (flight_moves q.base n t) (own_words q.base q.size s.cells (leases_of s.spots))) (by_number ps)) (same_progress q)
+      ∙ ap (λ ps. stock q (own_claims q s) m (written (flight_moves q.base n t) (own_words q.base q.size s.cells (leases_of s.spots))) (by_number ps))
+      (same_progress q)
 
   -- and of another
   pub moves_other : (m : ℕ) (r : Part) → (q.base + q.size ≤ r.base) ⊎ (r.base + r.size ≤ q.base) → own_stock r m (after_move d n s) ≡ own_stock r m s

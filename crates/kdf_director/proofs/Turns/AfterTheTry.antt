@@ -53,9 +53,11 @@ unfolding free_in
 free_alike q x y same kind = ap (λ f. find f (range_with_len 0 device_count)) (fun_ext (λ d. and_alike kind (get_or q.pool d None) (x d) (y d) (same d)))
 
 -- and the same is shown
-view_alike : (q : Part) (t : Moment) (s : Shared) (x y : ℕ → Bool) → ((d : ℕ) → in_pool q d ≡ true → x d ≡ y d) → view q (setting x t) s ≡ view q (setting y t) s
+view_alike : (q : Part) (t : Moment) (s : Shared) (x y : ℕ → Bool) → ((d : ℕ) → in_pool q d ≡ true → x d ≡ y d)
+    → view q (setting x t) s ≡ view q (setting y t) s
 view_alike q t s x y same =
-    ap₂ (λ (answer : Question → ℕ) (taken : Kind → Bool). let v : View = record (by_itself answer (own_stock q 0 s)) { is_out = is_out_of q s; is_busy = is_busy_in s; is_taken = taken; mine = own_from q.p 0 s.spots } in v)
+    ap₂ (λ (answer : Question → ℕ) (taken : Kind → Bool). let v : View =
+    record (by_itself answer (own_stock q 0 s)) { is_out = is_out_of q s; is_busy = is_busy_in s; is_taken = taken; mine = own_from q.p 0 s.spots } in v)
     (fun_ext answers) (fun_ext (λ kind. ap (λ (o : Option ℕ). not (is_some o)) (free_alike q x y same kind)))
   where
     answers : (a : Question) → answer_in q (setting x t) s a ≡ answer_in q (setting y t) s a
@@ -65,7 +67,8 @@ view_alike q t s x y same =
     answers (FreeOf kind) = ap (λ (o : Option ℕ). unwrap_or o 0) (free_alike q x y same kind)
     answers (OfService word) = refl
 
-module _ (reaches : List Reach) (seats : List Seat) (t : Moment) (s : Shared) (p : ℕ) (run : IsRunning reaches seats s) (lt : p < length seats) (live : is_live (seat_at seats p).registers.state ≡ true) where
+module _ (reaches : List Reach) (seats : List Seat) (t : Moment) (s : Shared) (p : ℕ) (run : IsRunning reaches seats s) (lt : p < length seats)
+    (live : is_live (seat_at seats p).registers.state ≡ true) where
   abbrev q : Part
   q = part_at reaches seats p
 
@@ -103,33 +106,43 @@ module _ (reaches : List Reach) (seats : List Seat) (t : Moment) (s : Shared) (p
   -- who has the devices of the pool then
   holders_are : (d : ℕ) → borrower (set seats p (settled (both_of seat shared)).seat) d ≡ holder_left q.p o.step (note_of o.act) d (borrower seats d)
   holders_are d =
-      ⊎_elim (λ (on : is_live seat.registers.state ≡ true). goes_on on) (λ (dead : is_live seat.registers.state ≡ false). ends dead) (cases_Bool (is_live seat.registers.state))
+      ⊎_elim (λ (on : is_live seat.registers.state ≡ true). goes_on on) (λ (dead : is_live seat.registers.state ≡ false). ends dead)
+      (cases_Bool (is_live seat.registers.state))
     where
-      goes_on : is_live seat.registers.state ≡ true → borrower (set seats p (settled (both_of seat shared)).seat) d ≡ holder_left q.p o.step (note_of o.act) d (borrower seats d)
+      goes_on : is_live seat.registers.state ≡ true → borrower (set seats p (settled (both_of seat shared)).seat) d ≡ holder_left q.p o.step (note_of o.act) d
+          (borrower seats d)
       goes_on on =
           ap (λ b. borrower (set seats p (cond b (both_of seat shared) (retired (length seat.stints) (both_of seat shared))).seat) d) on
           ∙ by_hold hold refl on
         where
-          by_hold : (x : Option Need) → hold_of reaches seats s p ≡ x → is_live (turn.by reaches seats t s p run lt x).registers.state ≡ true → borrower (turn.later reaches seats t s p run lt x) d ≡ holder_left q.p (turn.by reaches seats t s p run lt x).step (note_of (turn.by reaches seats t s p run lt x).act) d (borrower seats d)
-          by_hold (Some need) is on = same_holder reaches seats t s p run lt live (turn.own reaches seats t s p run lt) (turn.by reaches seats t s p run lt (Some need)) d refl
+          by_hold : (x : Option Need) → hold_of reaches seats s p ≡ x → is_live (turn.by reaches seats t s p run lt x).registers.state ≡ true
+              → borrower (turn.later reaches seats t s p run lt x) d ≡ holder_left q.p (turn.by reaches seats t s p run lt x).step
+              (note_of (turn.by reaches seats t s p run lt x).act) d (borrower seats d)
+          by_hold (Some need) is on = same_holder reaches seats t s p run lt live (turn.own reaches seats t s p run lt)
+              (turn.by reaches seats t s p run lt (Some need)) d refl
           by_hold None is on =
               live_by reaches seats t s p run lt live (turn.own reaches seats t s p run lt)
               (turn.e reaches seats t s p run lt) (turn.lawful reaches seats t s p run lt) (turn.free reaches seats t s p run lt is) on d
 
-      ends : is_live seat.registers.state ≡ false → borrower (set seats p (settled (both_of seat shared)).seat) d ≡ holder_left q.p o.step (note_of o.act) d (borrower seats d)
+      ends : is_live seat.registers.state ≡ false → borrower (set seats p (settled (both_of seat shared)).seat) d ≡ holder_left q.p o.step (note_of o.act) d
+          (borrower seats d)
       ends dead =
           let over = by_hold hold refl dead in
           ap (λ xs. borrower xs d) (sym (set-set seats p seat (settled (both_of seat shared)).seat))
           ∙ subst (λ (y : Seat). borrower (set tried_seats p (settled (both_of y shared)).seat) d ≡ holder_over y.p (borrower tried_seats d)) there
           (settled_holder reaches tried_seats shared p running within (ap (λ (y : Seat). is_live y.registers.state) there ∙ dead)
-          (λ e h flies same. alone_of q (turn.told_by seats t) s over.1 e h (ap (λ (x : Shared). (spot_at x.spots e).flight) (sym over.0) ∙ flies) (same ∙ ap (λ (y : Seat). y.p) there))
+          (λ e h flies same. alone_of q (turn.told_by seats t) s over.1 e h (ap (λ (x : Shared). (spot_at x.spots e).flight) (sym over.0) ∙ flies)
+          (same ∙ ap (λ (y : Seat). y.p) there))
           d)
-          ∙ ap (holder_over q.p) (same_holder reaches seats t s p run lt live (turn.own reaches seats t s p run lt) o d (ap (λ (x : Part). lends x.stints d) over.3))
+          ∙ ap (holder_over q.p) (same_holder reaches seats t s p run lt live (turn.own reaches seats t s p run lt) o d
+          (ap (λ (x : Part). lends x.stints d) over.3))
           ∙ sym (over.2 d (borrower seats d))
         where
           by_hold : (x : Option Need) → hold_of reaches seats s p ≡ x → is_live (turn.by reaches seats t s p run lt x).registers.state ≡ false
-              → (turn.shared reaches seats t s p run lt x ≡ s) × (first_pending (view q (turn.told_by seats t) s) (map Device (turn.own reaches seats t s p run lt)) ≡ None)
-              × ((e : ℕ) (h : Option ℕ) → holder_left q.p (turn.by reaches seats t s p run lt x).step (note_of (turn.by reaches seats t s p run lt x).act) e h ≡ holder_over q.p h)
+              → (turn.shared reaches seats t s p run lt x ≡ s)
+              × (first_pending (view q (turn.told_by seats t) s) (map Device (turn.own reaches seats t s p run lt)) ≡ None)
+              × ((e : ℕ) (h : Option ℕ) → holder_left q.p (turn.by reaches seats t s p run lt x).step (note_of (turn.by reaches seats t s p run lt x).act) e h
+              ≡ holder_over q.p h)
               × (part_after q s (turn.by reaches seats t s p run lt x).act ≡ q)
           by_hold (Some need) is dead = cc (sym dead ∙ live)
           by_hold None is dead =
@@ -137,7 +150,8 @@ module _ (reaches : List Reach) (seats : List Seat) (t : Moment) (s : Shared) (p
               (turn.e reaches seats t s p run lt) (turn.free reaches seats t s p run lt is) dead
 
   -- an order that was tried, after which a program that is over gave up what it had
-  module _ (held : ℕ → Option ℕ) (lent : AreHeld held reaches seats) (new : Seat) (s' : Shared) (step : Step) (note : Note) (ran : HasRun (reach_at reaches p) held t (seat_at seats p) s new s' step note) where
+  module _ (held : ℕ → Option ℕ) (lent : AreHeld held reaches seats) (new : Seat) (s' : Shared) (step : Step) (note : Note)
+      (ran : HasRun (reach_at reaches p) held t (seat_at seats p) s new s' step note) where
     -- a device of the pool is taken, as the program finds it, where a program has it
     found_taken : (d : ℕ) → in_pool q d ≡ true → is_taken_by (seat_at seats p).claimed held d ≡ is_lent_by seats d
     found_taken d pooled =
@@ -193,7 +207,8 @@ module _ (reaches : List Reach) (seats : List Seat) (t : Moment) (s : Shared) (p
           holders = λ d.
               ap (λ (b : Both). borrower (set seats p b.seat) d) both_is
               ∙ holders_are d
-              ∙ sym (ap₂ (λ x y. holder_left q.p x y d (borrower seats d)) (ran.step ∙ ap (λ (x : Outcome). x.step) outcome_is) (ran.note ∙ ap (λ (x : Outcome). note_of x.act) outcome_is));
+              ∙ sym (ap₂ (λ x y. holder_left q.p x y d (borrower seats d)) (ran.step ∙ ap (λ (x : Outcome). x.step) outcome_is)
+              (ran.note ∙ ap (λ (x : Outcome). note_of x.act) outcome_is));
           count = length-set seats p new;
           numbers = number;
         }
@@ -202,6 +217,7 @@ module _ (reaches : List Reach) (seats : List Seat) (t : Moment) (s : Shared) (p
     turned_running = subst (λ xs. IsRunning reaches xs s') seats_are gone.running
 
 -- a word of a program, here or out
-pub word_shown : (reaches : List Reach) (seats : List Seat) (s : Shared) (n i a : ℕ) → a < (reach_at reaches i).size → word_at_place s.cells (leases_of s.spots) ((reach_at reaches i).base + a) ≡ word_at (own_state reaches seats s n i) a
+pub word_shown : (reaches : List Reach) (seats : List Seat) (s : Shared) (n i a : ℕ) → a < (reach_at reaches i).size
+    → word_at_place s.cells (leases_of s.spots) ((reach_at reaches i).base + a) ≡ word_at (own_state reaches seats s n i) a
 unfolding own_state
 word_shown reaches seats s n i a lt = sym (own_word (part_at reaches seats i) n s a lt)

@@ -1,5 +1,6 @@
 -- Which program has a device of the pool now.
-use Rattle.std.proofs.Common.{◌≡◌, ◌≢◌, ℕ, zero, suc, ◌<◌, Bool, true, false, List, [], ◌∷◌, length, Option, Some, None, cond, refl, sym, ap, ap₂, ◌∙◌, ⊎_elim, arith}
+use Rattle.std.proofs.Common.{◌≡◌, ◌≢◌, ℕ, zero, suc, ◌<◌, Bool, true, false, List, [], ◌∷◌, length, Option, Some, None, cond, refl, sym, ap, ap₂, ◌∙◌, ⊎_elim}
+use Rattle.std.proofs.Common.{arith}
 use Rattle.std.proofs.lemmas.Bool.{cases_eq, eq-eqb, ne_eqb, or_parts, or_right}
 use Rattle.kdf_theory.specs.Holders.{is_taker}
 use Rattle.kdf_director.specs.Fields.Parts.{Reach, Seat, borrower}
@@ -16,7 +17,8 @@ borrower_none (x ∷ seats) d none =
     ap (λ b. cond b (Some x.p) (borrower seats d)) (none 0 (omega arith)) ∙ borrower_none seats d (λ j lt. none (suc j) (omega arith))
 
 -- this one, where it has the device and no other does
-pub borrower_at : (seats : List Seat) (d i : ℕ) → i < length seats → lends (seat_at seats i).stints d ≡ true → ((j : ℕ) → j < length seats → j ≢ i → lends (seat_at seats j).stints d ≡ false) → borrower seats d ≡ Some (seat_at seats i).p
+pub borrower_at : (seats : List Seat) (d i : ℕ) → i < length seats → lends (seat_at seats i).stints d ≡ true
+    → ((j : ℕ) → j < length seats → j ≢ i → lends (seat_at seats j).stints d ≡ false) → borrower seats d ≡ Some (seat_at seats i).p
 borrower_at [] d i lt has others = absurd (omega arith)
 borrower_at (x ∷ seats) d zero lt has others = ap (λ b. cond b (Some x.p) (borrower seats d)) has
 borrower_at (x ∷ seats) d (suc i) lt has others =
@@ -24,7 +26,9 @@ borrower_at (x ∷ seats) d (suc i) lt has others =
     ∙ borrower_at seats d i (omega arith) has (λ j lt' ne. others (suc j) (omega arith) (λ (e : suc j ≡ suc i). ne (omega arith)))
 
 -- the same, where each has what it had
-pub borrower_same : (seats seats' : List Seat) (d : ℕ) → length seats' ≡ length seats → ((j : ℕ) → j < length seats → lends (seat_at seats' j).stints d ≡ lends (seat_at seats j).stints d) → ((j : ℕ) → (seat_at seats' j).p ≡ (seat_at seats j).p) → borrower seats' d ≡ borrower seats d
+pub borrower_same : (seats seats' : List Seat) (d : ℕ) → length seats' ≡ length seats
+    → ((j : ℕ) → j < length seats → lends (seat_at seats' j).stints d ≡ lends (seat_at seats j).stints d)
+    → ((j : ℕ) → (seat_at seats' j).p ≡ (seat_at seats j).p) → borrower seats' d ≡ borrower seats d
 borrower_same [] [] d many same numbers = refl
 borrower_same [] (y ∷ ys) d many same numbers = absurd (omega arith)
 borrower_same (x ∷ xs) [] d many same numbers = absurd (omega arith)
@@ -33,11 +37,14 @@ borrower_same (x ∷ xs) (y ∷ ys) d many same numbers =
     ∙ ap (λ p. cond (lends x.stints d) (Some p) (borrower xs d)) (numbers 0)
 
 -- one of them, where there is one
-pub borrower_from : (seats : List Seat) (d q : ℕ) → borrower seats d ≡ Some q → (j : ℕ) × (j < length seats) × (lends (seat_at seats j).stints d ≡ true) × ((seat_at seats j).p ≡ q)
+pub borrower_from : (seats : List Seat) (d q : ℕ) → borrower seats d ≡ Some q → (j : ℕ) × (j < length seats) × (lends (seat_at seats j).stints d ≡ true)
+    × ((seat_at seats j).p ≡ q)
 borrower_from [] d q is = cc
 borrower_from (x ∷ seats) d q is = of (lends x.stints d) refl is (λ rest. borrower_from seats d q rest)
   where
-    of : (b : Bool) → lends x.stints d ≡ b → cond b (Some x.p) (borrower seats d) ≡ Some q → (borrower seats d ≡ Some q → (j : ℕ) × (j < length seats) × (lends (seat_at seats j).stints d ≡ true) × ((seat_at seats j).p ≡ q)) → (j : ℕ) × (j < length (x ∷ seats)) × (lends (seat_at (x ∷ seats) j).stints d ≡ true) × ((seat_at (x ∷ seats) j).p ≡ q)
+    of : (b : Bool) → lends x.stints d ≡ b → cond b (Some x.p) (borrower seats d) ≡ Some q
+        → (borrower seats d ≡ Some q → (j : ℕ) × (j < length seats) × (lends (seat_at seats j).stints d ≡ true) × ((seat_at seats j).p ≡ q))
+        → (j : ℕ) × (j < length (x ∷ seats)) × (lends (seat_at (x ∷ seats) j).stints d ≡ true) × ((seat_at (x ∷ seats) j).p ≡ q)
     of true has is later = (0, omega arith, has, cc)
     of false none is later = let r = later is in (suc r.0, (let lt = r.1 in omega arith), r.2, r.3)
 

@@ -4,7 +4,8 @@ use Rattle.std.proofs.lemmas.Bool.{cases_eq, eq-eqb, ne_eqb}
 use Rattle.std.proofs.lemmas.List.{get_or-set_other, get_or-set_same, length-set}
 use Rattle.kdf_processor.specs.declared.registers.Registers.{Registers}
 use Rattle.kdf_processor.specs.declared.step.Need.TheVariants.{Device}
-use Rattle.kdf_processor.specs.Effect.{Effect, Failing, Ending, Changing, Fetching, Keeping, Testing, Starting, Asking, IsBusy, IsOut, Time, FreeOf, OfService, Claiming, Returning, Spooling}
+use Rattle.kdf_processor.specs.Effect.{Effect, Failing, Ending, Changing, Fetching, Keeping, Testing, Starting, Asking, IsBusy, IsOut, Time, FreeOf, OfService}
+use Rattle.kdf_processor.specs.Effect.{Claiming, Returning, Spooling}
 use Rattle.kdf_processor.specs.Lone.{is_live}
 use Rattle.kdf_processor.specs.Needs.{effect_needs}
 use Rattle.kdf_processor.specs.Outcome.{Outcome, done}
@@ -26,7 +27,8 @@ use Rattle.kdf_director.proofs.Turns.Borrowers.{borrower_at, borrower_none, borr
 use Rattle.kdf_director.proofs.Turns.OneOrder.{is_part, told_by, unlent_by}
 use Rattle.kdf_director.proofs.Turns.OrdersTried.{IsPart, give_its, take_free, take_is, take_nobodys}
 
-module _ (reaches : List Reach) (seats : List Seat) (t : Moment) (s : Shared) (p : ℕ) (run : IsRunning reaches seats s) (lt : p < length seats) (live : is_live (seat_at seats p).registers.state ≡ true) (own : List ℕ) where
+module _ (reaches : List Reach) (seats : List Seat) (t : Moment) (s : Shared) (p : ℕ) (run : IsRunning reaches seats s) (lt : p < length seats)
+    (live : is_live (seat_at seats p).registers.state ≡ true) (own : List ℕ) where
   abbrev q : Part
   q = part_at reaches seats p
 
@@ -84,7 +86,9 @@ module _ (reaches : List Reach) (seats : List Seat) (t : Moment) (s : Shared) (p
       (cases_eq j p))
 
   -- after one that goes on
-  pub live_by : (e : Effect) → IsLawful (own_claims q s) e → first_pending (view q u s) (effect_needs own e) ≡ None → is_live (done (view q u s) r e).registers.state ≡ true → (d : ℕ) → borrower (after (done (view q u s) r e)) d ≡ holder_left q.p (done (view q u s) r e).step (note_of (done (view q u s) r e).act) d (borrower seats d)
+  pub live_by : (e : Effect) → IsLawful (own_claims q s) e → first_pending (view q u s) (effect_needs own e) ≡ None
+      → is_live (done (view q u s) r e).registers.state ≡ true → (d : ℕ)
+      → borrower (after (done (view q u s) r e)) d ≡ holder_left q.p (done (view q u s) r e).step (note_of (done (view q u s) r e).act) d (borrower seats d)
   live_by (Failing kind) lawful free on d = cc
   live_by (Ending end) lawful free on d = cc
   live_by (Changing then) lawful free on d = same_holder (done (view q u s) r (Changing then)) d refl
@@ -129,7 +133,9 @@ module _ (reaches : List Reach) (seats : List Seat) (t : Moment) (s : Shared) (p
 
   -- one that ends or fails does nothing else, waits for all transfers, and takes what the program has
   pub over_by : (e : Effect) → first_pending (view q u s) (effect_needs own e) ≡ None → is_live (done (view q u s) r e).registers.state ≡ false
-      → (after_act q s (done (view q u s) r e).act ≡ s) × (first_pending (view q u s) (map Device own) ≡ None) × ((d : ℕ) (o : Option ℕ) → holder_left q.p (done (view q u s) r e).step (note_of (done (view q u s) r e).act) d o ≡ holder_over q.p o) × (part_after q s (done (view q u s) r e).act ≡ q)
+      → (after_act q s (done (view q u s) r e).act ≡ s) × (first_pending (view q u s) (map Device own) ≡ None)
+      × ((d : ℕ) (o : Option ℕ) → holder_left q.p (done (view q u s) r e).step (note_of (done (view q u s) r e).act) d o ≡ holder_over q.p o)
+      × (part_after q s (done (view q u s) r e).act ≡ q)
   over_by (Failing kind) free dead = (refl, free, (λ d o. refl), refl)
   over_by (Ending end) free dead = (refl, free, (λ d o. refl), refl)
   over_by (Changing then) free dead = cc (sym dead ∙ live)

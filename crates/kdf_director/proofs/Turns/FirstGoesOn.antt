@@ -1,7 +1,8 @@
 -- Before any exchange of priorities, the first of all programs that goes on is next.
 use Rattle.std.specs.Prelude.{find}
 use Rattle.std.specs.List.{range_with_len}
-use Rattle.std.proofs.Common.{◌≡◌, ℕ, zero, suc, ◌+◌, ◌-◌, ◌<◌, ◌≤◌, Bool, true, false, eqb, List, length, Option, Some, None, cond, refl, sym, ap, ◌∙◌, subst, ⊎_elim, arith}
+use Rattle.std.proofs.Common.{◌≡◌, ℕ, zero, suc, ◌+◌, ◌-◌, ◌<◌, ◌≤◌, Bool, true, false, eqb, List, length, Option, Some, None, cond, refl, sym, ap, ◌∙◌, subst}
+use Rattle.std.proofs.Common.{⊎_elim, arith}
 use Rattle.std.proofs.lemmas.Bool.{cases_lt, eq-eqb, eqb-true, false≢true}
 use Rattle.std.proofs.lemmas.List.{length-map}
 use Rattle.kdf_journal.specs.Counts.{slot_numbers}
@@ -14,7 +15,8 @@ use Rattle.kdf_places.specs.Shared.{Shared}
 use Rattle.kdf_director.specs.Fields.Running.{seat_at, seats_in, AreNumbered}
 use Rattle.kdf_director.proofs.Physical.FirstFound.{found_first, none_found}
 
-module _ (reaches : List Reach) (seats : List Seat) (holds : List (Option Need)) (s : Shared) (up : AreNumbered seats) (four : (i : ℕ) → i < length seats → (seat_at seats i).p < 4) where
+module _ (reaches : List Reach) (seats : List Seat) (holds : List (Option Need)) (s : Shared) (up : AreNumbered seats) (four : (i : ℕ) → i < length seats
+    → (seat_at seats i).p < 4) where
   abbrev p : ℕ → ℕ
   p i = (seat_at seats i).p
 
@@ -132,7 +134,8 @@ module _ (reaches : List Reach) (seats : List Seat) (holds : List (Option Need))
       })
 
 -- of so many programs
-pub in_order : (reaches : List Reach) (programs : List Program) (holds : List (Option Need)) (s : Shared) → AreNumbered (seats_in programs) → ((i : ℕ) → i < length programs → (seat_at (seats_in programs) i).p < 4)
+pub in_order : (reaches : List Reach) (programs : List Program) (holds : List (Option Need)) (s : Shared) → AreNumbered (seats_in programs)
+    → ((i : ℕ) → i < length programs → (seat_at (seats_in programs) i).p < 4)
     → first_going reaches (seats_in programs) holds s slot_numbers ≡ find (goes_at reaches (seats_in programs) holds s) (range_with_len 0 (length programs - 0))
 in_order reaches programs holds s up four =
     let many = length-map programs seat_of in

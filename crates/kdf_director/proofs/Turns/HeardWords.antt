@@ -43,11 +43,13 @@ fewer_found {X} f g le (x ∷ xs) none = of (f x) (g x) refl refl none (λ rest.
     of false false is is' none later = ap (λ c. cond c (Some x) (find g xs)) is' ∙ later none
 
 -- where all of a kind are taken, all are where more are
-more_taken : (q : Part) (x y : ℕ → Bool) → ((d : ℕ) → in_pool q d ≡ true → x d ≡ true → y d ≡ true) → (kind : Kind) → is_pool_taken q.pool x kind ≡ true → is_pool_taken q.pool y kind ≡ true
+more_taken : (q : Part) (x y : ℕ → Bool) → ((d : ℕ) → in_pool q d ≡ true → x d ≡ true → y d ≡ true) → (kind : Kind) → is_pool_taken q.pool x kind ≡ true
+    → is_pool_taken q.pool y kind ≡ true
 unfolding free_in
 more_taken q x y le kind all =
     ap (λ (o : Option ℕ). not (is_some o))
-    (fewer_found (is_free_in q.pool x kind) (is_free_in q.pool y kind) each (range_with_len 0 device_count) (none_of (find (is_free_in q.pool x kind) (range_with_len 0 device_count)) all))
+    (fewer_found (is_free_in q.pool x kind) (is_free_in q.pool y kind) each (range_with_len 0 device_count)
+    (none_of (find (is_free_in q.pool x kind) (range_with_len 0 device_count)) all))
   where
     none_of : (o : Option ℕ) → not (is_some o) ≡ true → o ≡ None
     none_of None is = refl
@@ -63,7 +65,8 @@ more_taken q x y le kind all =
         of false is pooled not_y = ap not is
 
 -- so nothing is pending where nothing is with more taken
-none_pending : (q : Part) (t w : Setting) (s : Shared) → ((d : ℕ) → in_pool q d ≡ true → w.taken d ≡ true → t.taken d ≡ true) → (ns : List Need) → first_pending (view q t s) ns ≡ None → first_pending (view q w s) ns ≡ None
+none_pending : (q : Part) (t w : Setting) (s : Shared) → ((d : ℕ) → in_pool q d ≡ true → w.taken d ≡ true → t.taken d ≡ true) → (ns : List Need)
+    → first_pending (view q t s) ns ≡ None → first_pending (view q w s) ns ≡ None
 none_pending q t w s le ns none = fewer_found (is_pending (view q t s)) (is_pending (view q w s)) each ns none
   where
     each : (n : Need) → is_pending (view q w s) n ≡ true → is_pending (view q t s) n ≡ true
@@ -72,7 +75,9 @@ none_pending q t w s le ns none = fewer_found (is_pending (view q t s)) (is_pend
     each (Pool kind) is = more_taken q w.taken t.taken le kind is
 
 -- of an order that nothing holds up, the word is that of its effect, by the program's own state
-pub word_is : (reaches : List Reach) (seats : List Seat) (s : Shared) (i : ℕ) → IsRunning reaches seats s → i < length seats → is_live (seat_at seats i).registers.state ≡ true → hold_of reaches seats s i ≡ None → (n : ℕ) → word_over (seat_at seats i) (reach_at reaches i) s ≡ word_asked (next_effect (own_state reaches seats s n i))
+pub word_is : (reaches : List Reach) (seats : List Seat) (s : Shared) (i : ℕ) → IsRunning reaches seats s → i < length seats
+    → is_live (seat_at seats i).registers.state ≡ true → hold_of reaches seats s i ≡ None → (n : ℕ) → word_over (seat_at seats i) (reach_at reaches i) s
+    ≡ word_asked (next_effect (own_state reaches seats s n i))
 unfolding own_state hold_of
 word_is reaches seats s i run lt live free n =
     let t = moment 0 0 in
@@ -88,6 +93,7 @@ word_is reaches seats s i run lt live free n =
     marked false is = is
 
     -- a device that the program has claimed is its own
-    claimed_taken : (d : ℕ) → in_pool (part_at reaches seats i) d ≡ true → is_taken_by (seat_at seats i).claimed (held_by []) d ≡ true → is_lent_by seats d ≡ true
+    claimed_taken : (d : ℕ) → in_pool (part_at reaches seats i) d ≡ true → is_taken_by (seat_at seats i).claimed (held_by []) d ≡ true
+        → is_lent_by seats d ≡ true
     claimed_taken d pooled is =
         ap is_some (has_now reaches seats s run i lt d (sym ((run.active i lt live).marks d pooled) ∙ marked (get_or (seat_at seats i).claimed d false) is))

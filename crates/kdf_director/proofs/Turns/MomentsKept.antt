@@ -1,6 +1,7 @@
 -- What holds at each moment is kept.
 use Rattle.std.specs.Option.{option_map}
-use Rattle.std.proofs.Common.{◌≡◌, ◌≢◌, ℕ, ◌+◌, ◌/◌, ◌<◌, ◌⊎◌, inl, Bool, true, false, List, length, set, Option, Some, None, is_some, cond, refl, sym, ap, ◌∙◌, subst, ⊎_elim, arith}
+use Rattle.std.proofs.Common.{◌≡◌, ◌≢◌, ℕ, ◌+◌, ◌/◌, ◌<◌, ◌⊎◌, inl, Bool, true, false, List, length, set, Option, Some, None, is_some, cond, refl, sym, ap, ◌∙◌}
+use Rattle.std.proofs.Common.{subst, ⊎_elim, arith}
 use Rattle.std.proofs.lemmas.Bool.{cases_eq}
 use Rattle.std.proofs.lemmas.List.{get_or-set_same, get_or-set_other, length-set}
 use Rattle.kdf_lockout.specs.Groups.{lent_groups, touched}
@@ -52,7 +53,8 @@ AreGained reaches seats seats' =
 -- a program has the device of a transfer still
 abbrev pub AreNotLost : List Reach → (seats seats' : List Seat) → Shared → Type 0
 AreNotLost reaches seats seats' s' =
-    (i d : ℕ) → i < length seats → is_some (spot_at s'.spots d).flight ≡ true → has_device (part_at reaches seats i) d ≡ true → has_device (part_at reaches seats' i) d ≡ true
+    (i d : ℕ) → i < length seats → is_some (spot_at s'.spots d).flight ≡ true → has_device (part_at reaches seats i) d ≡ true
+    → has_device (part_at reaches seats' i) d ≡ true
 
 -- a device of the pool that nobody has then has moved nothing
 abbrev pub AreFresh : List Reach → (seats seats' : List Seat) → Shared → Type 0
@@ -64,7 +66,10 @@ pub gained_none : (reaches : List Reach) (seats : List Seat) → AreGained reach
 gained_none reaches seats i d lt has = inl has
 
 -- the programs keep their parts, the flights are theirs, and each has what it had, or what it took
-pub running_by : (reaches : List Reach) (seats seats' : List Seat) (s s' : Shared) → IsRunning reaches seats s → length seats' ≡ length seats → ((i : ℕ) → SamePart (part_at reaches seats i) (part_at reaches seats' i)) → length s'.cells ≡ length s.cells → IsSound s' → AreGained reaches seats seats' → AreFresh reaches seats seats' s' → AreNotLost reaches seats seats' s' → KeepsFixtures s s' → AreFlights reaches seats s' → AreKept reaches seats' s' → AreActive reaches seats' → IsRunning reaches seats' s'
+pub running_by : (reaches : List Reach) (seats seats' : List Seat) (s s' : Shared) → IsRunning reaches seats s → length seats' ≡ length seats
+    → ((i : ℕ) → SamePart (part_at reaches seats i) (part_at reaches seats' i)) → length s'.cells ≡ length s.cells → IsSound s'
+    → AreGained reaches seats seats' → AreFresh reaches seats seats' s' → AreNotLost reaches seats seats' s' → KeepsFixtures s s' → AreFlights reaches seats s'
+    → AreKept reaches seats' s' → AreActive reaches seats' → IsRunning reaches seats' s'
 running_by reaches seats seats' s s' run count parts cells sound gained fresh not_lost fixtures flights kept active =
     record {
       sound = sound;
@@ -81,7 +86,8 @@ running_by reaches seats seats' s s' run count parts cells sound gained fresh no
       flights = λ d h flies. held d h flies (flights d h flies);
     }
   where
-    held : (d : ℕ) (h : Held) → (spot_at s'.spots d).flight ≡ Some h → IsHeld reaches seats d (spot_at s'.spots d) h → IsHeld reaches seats' d (spot_at s'.spots d) h
+    held : (d : ℕ) (h : Held) → (spot_at s'.spots d).flight ≡ Some h → IsHeld reaches seats d (spot_at s'.spots d) h
+        → IsHeld reaches seats' d (spot_at s'.spots d) h
     held d h flies is =
         record {
           by = is.by;
@@ -90,7 +96,8 @@ running_by reaches seats seats' s s' run count parts cells sound gained fresh no
               (not_lost is.by d is.there (ap is_some flies) is.flight.its) is.flight;
         }
 
-    alone : (i j d : ℕ) → i < length seats → j < length seats → i ≢ j → has_device (part_at reaches seats' i) d ≡ true → has_device (part_at reaches seats' j) d ≡ false
+    alone : (i j d : ℕ) → i < length seats → j < length seats → i ≢ j → has_device (part_at reaches seats' i) d ≡ true
+        → has_device (part_at reaches seats' j) d ≡ false
     alone i j d lt lt' ne has = of (has_device (part_at reaches seats' j) d) refl
       where
         clash : has_device (part_at reaches seats' j) d ≡ true → ⊥
@@ -101,7 +108,8 @@ running_by reaches seats seats' s s' run count parts cells sound gained fresh no
             (λ (also : has_device (part_at reaches seats j) d ≡ true). cc (sym (run.single i j d lt lt' ne was) ∙ also))
             (λ (others : (k : ℕ) → k < length seats → k ≢ j → has_device (part_at reaches seats' k) d ≡ false). cc (sym (others i lt ne) ∙ has))
             (gained j d lt' had))
-            (λ (others : (k : ℕ) → k < length seats → k ≢ i → has_device (part_at reaches seats' k) d ≡ false). cc (sym (others j lt' (λ same. ne (sym same))) ∙ had))
+            (λ (others : (k : ℕ) → k < length seats → k ≢ i → has_device (part_at reaches seats' k) d ≡ false). cc (sym (others j lt' (λ same. ne (sym same)))
+            ∙ had))
             (gained i d lt has)
 
         of : (b : Bool) → has_device (part_at reaches seats' j) d ≡ b → has_device (part_at reaches seats' j) d ≡ false
@@ -109,7 +117,8 @@ running_by reaches seats seats' s s' run count parts cells sound gained fresh no
         of false is = is
 
 -- an effect none of whose needs is pending
-module _ (reaches : List Reach) (seats : List Seat) (t : Moment) (s : Shared) (p : ℕ) (r : Registers) (own : List ℕ) (run : IsRunning reaches seats s) (lt : p < length seats) (live : is_live (seat_at seats p).registers.state ≡ true) where
+module _ (reaches : List Reach) (seats : List Seat) (t : Moment) (s : Shared) (p : ℕ) (r : Registers) (own : List ℕ) (run : IsRunning reaches seats s)
+    (lt : p < length seats) (live : is_live (seat_at seats p).registers.state ≡ true) where
   abbrev q : Part
   q = part_at reaches seats p
 
@@ -125,7 +134,8 @@ module _ (reaches : List Reach) (seats : List Seat) (t : Moment) (s : Shared) (p
       at_spot s.spots d y inside (λ e z. z.flight ≡ Some h → IsHeld reaches seats e z h)
       (λ flies. cc (sym none ∙ flies)) (λ e ne. run.flights e h) x
 
-  fixtures_idle : (d : ℕ) (y : Spot) → d < length s.spots → (is_some (spot_at s.spots d).fixture ≡ true → is_some y.fixture ≡ true) → KeepsFixtures s (with_spot d y s)
+  fixtures_idle : (d : ℕ) (y : Spot) → d < length s.spots → (is_some (spot_at s.spots d).fixture ≡ true → is_some y.fixture ≡ true)
+      → KeepsFixtures s (with_spot d y s)
   fixtures_idle d y inside same =
       at_spot s.spots d y inside (λ e z. is_some (spot_at s.spots e).fixture ≡ true → is_some z.fixture ≡ true) same (λ e ne some. some)
 
@@ -136,7 +146,8 @@ module _ (reaches : List Reach) (seats : List Seat) (t : Moment) (s : Shared) (p
   some_blank None is = cc
   some_blank (Some f) is = refl
 
-  pub flights_by : (e : Effect) → IsLawful (own_claims q s) e → first_pending (view q u s) (effect_needs own e) ≡ None → AreFlights reaches seats (after_act q s (done (view q u s) r e).act)
+  pub flights_by : (e : Effect) → IsLawful (own_claims q s) e → first_pending (view q u s) (effect_needs own e) ≡ None
+      → AreFlights reaches seats (after_act q s (done (view q u s) r e).act)
   flights_by (Starting d o first last after) lawful free x h flies =
       ⊎_elim
       (λ (same : x ≡ d).
@@ -156,7 +167,18 @@ module _ (reaches : List Reach) (seats : List Seat) (t : Moment) (s : Shared) (p
       new = start_spot q.p o (q.base + first) (q.base + last) s.cells (spot_at s.spots d)
 
       held : Held
-      held = record { p = q.p; motion = record { order = o; first = q.base + first; last = q.base + last; fixture = fixture_or (spot_at s.spots d).fixture; progress = (spot_at s.spots d).progress; lease = start_lease o (q.base + first) (q.base + last) s.cells; moved = 0 } }
+      held = record {
+        p = q.p;
+        motion = record {
+          order = o;
+          first = q.base + first;
+          last = q.base + last;
+          fixture = fixture_or (spot_at s.spots d).fixture;
+          progress = (spot_at s.spots d).progress;
+          lease = start_lease o (q.base + first) (q.base + last) s.cells;
+          moved = 0;
+        };
+      }
 
       inside : d < length s.spots
       inside = let e = run.sound.spots in let small = start_small q u s d o first last after own part lawful free in omega arith
@@ -184,13 +206,15 @@ module _ (reaches : List Reach) (seats : List Seat) (t : Moment) (s : Shared) (p
   flights_by (Returning false d after) lawful free x h flies = run.flights x h flies
   flights_by e lawful free x h flies = run.flights x h flies
 
-  pub fixtures_by : (e : Effect) → IsLawful (own_claims q s) e → first_pending (view q u s) (effect_needs own e) ≡ None → KeepsFixtures s (after_act q s (done (view q u s) r e).act)
+  pub fixtures_by : (e : Effect) → IsLawful (own_claims q s) e → first_pending (view q u s) (effect_needs own e) ≡ None
+      → KeepsFixtures s (after_act q s (done (view q u s) r e).act)
   fixtures_by (Starting d o first last after) lawful free x some =
       ⊎_elim
       (λ (same : x ≡ d).
       let inside : d < length s.spots = (let e = run.sound.spots in let small = start_small q u s d o first last after own part lawful free in omega arith) in
       ap (λ y. is_some (spot_at (set s.spots d (start_spot q.p o (q.base + first) (q.base + last) s.cells (spot_at s.spots d))) y).fixture) same
-      ∙ ap (λ (y : Spot). is_some y.fixture) (get_or-set_same s.spots d (start_spot q.p o (q.base + first) (q.base + last) s.cells (spot_at s.spots d)) no_spot inside))
+      ∙ ap (λ (y : Spot). is_some y.fixture) (get_or-set_same s.spots d (start_spot q.p o (q.base + first) (q.base + last) s.cells (spot_at s.spots d)) no_spot
+      inside))
       (λ (ne : x ≢ d). ap (λ (y : Spot). is_some y.fixture) (get_or-set_other s.spots d x _ no_spot ne) ∙ some)
       (cases_eq x d)
   fixtures_by (Returning true d after) lawful free x some =
@@ -199,23 +223,30 @@ module _ (reaches : List Reach) (seats : List Seat) (t : Moment) (s : Shared) (p
   fixtures_by (Returning false d after) lawful free x some = some
   fixtures_by e lawful free x some = some
 
-  pub cells_by : (e : Effect) → IsLawful (own_claims q s) e → first_pending (view q u s) (effect_needs own e) ≡ None → length (after_act q s (done (view q u s) r e).act).cells ≡ length s.cells
+  pub cells_by : (e : Effect) → IsLawful (own_claims q s) e → first_pending (view q u s) (effect_needs own e) ≡ None
+      → length (after_act q s (done (view q u s) r e).act).cells ≡ length s.cells
   cells_by (Keeping a w after) lawful free = length-set s.cells ((q.base + a) / 32) _
-  cells_by (Starting d o first last after) lawful free = length-start o (q.base + first) (q.base + last) s.cells (start_free q u s d o first last after own part lawful free)
+  cells_by (Starting d o first last after) lawful free = length-start o (q.base + first) (q.base + last) s.cells
+      (start_free q u s d o first last after own part lawful free)
   cells_by (Returning true d after) lawful free = refl
   cells_by (Returning false d after) lawful free = refl
   cells_by e lawful free = refl
 
 -- one order more of a live program
-pub running_tried : (reaches : List Reach) (seats : List Seat) (t : Moment) (s : Shared) (p : ℕ) (run : IsRunning reaches seats s) (lt : p < length seats) → is_live (seat_at seats p).registers.state ≡ true → (o : Option Need) → hold_of reaches seats s p ≡ o → IsRunning reaches (turn.later reaches seats t s p run lt o) (turn.shared reaches seats t s p run lt o)
+pub running_tried : (reaches : List Reach) (seats : List Seat) (t : Moment) (s : Shared) (p : ℕ) (run : IsRunning reaches seats s) (lt : p < length seats)
+    → is_live (seat_at seats p).registers.state ≡ true → (o : Option Need) → hold_of reaches seats s p ≡ o
+    → IsRunning reaches (turn.later reaches seats t s p run lt o) (turn.shared reaches seats t s p run lt o)
 running_tried reaches seats t s p run lt live (Some need) is =
-    running_by reaches seats (turn.later reaches seats t s p run lt (Some need)) s s run (length-set seats p _) (turn.same_part reaches seats t s p run lt (Some need)) refl run.sound
+    running_by reaches seats (turn.later reaches seats t s p run lt (Some need)) s s run (length-set seats p _)
+    (turn.same_part reaches seats t s p run lt (Some need)) refl run.sound
     (turn.tried_gains reaches seats t s p run lt live (Some need) is)
     (turn.tried_fresh reaches seats t s p run lt live (Some need) is)
     (turn.tried_keeps reaches seats t s p run lt live (Some need) is)
     (λ d some. some) run.flights
-    (λ i within. turn.tried_kept reaches seats t s p run lt live (Some need) is i (omega (arith, length-set seats p (turn.new reaches seats t s p run lt (Some need)))))
-    (λ i within. turn.tried_active reaches seats t s p run lt live (Some need) is i (omega (arith, length-set seats p (turn.new reaches seats t s p run lt (Some need)))))
+    (λ i within. turn.tried_kept reaches seats t s p run lt live (Some need) is i
+    (omega (arith, length-set seats p (turn.new reaches seats t s p run lt (Some need)))))
+    (λ i within. turn.tried_active reaches seats t s p run lt live (Some need) is i
+    (omega (arith, length-set seats p (turn.new reaches seats t s p run lt (Some need)))))
 running_tried reaches seats t s p run lt live None is =
     let q = part_at reaches seats p in
     let r = (seat_at seats p).registers in
@@ -223,7 +254,8 @@ running_tried reaches seats t s p run lt live None is =
     let free = turn.free reaches seats t s p run lt is in
     let own = turn.own reaches seats t s p run lt in
     let e = turn.e reaches seats t s p run lt in
-    running_by reaches seats (turn.later reaches seats t s p run lt None) s (turn.shared reaches seats t s p run lt None) run (length-set seats p _) (turn.same_part reaches seats t s p run lt None)
+    running_by reaches seats (turn.later reaches seats t s p run lt None) s (turn.shared reaches seats t s p run lt None) run (length-set seats p _)
+    (turn.same_part reaches seats t s p run lt None)
     (cells_by reaches seats t s p r own run lt live e lawful free)
     (turn.tried_sound reaches seats t s p run lt live None is)
     (turn.tried_gains reaches seats t s p run lt live None is)

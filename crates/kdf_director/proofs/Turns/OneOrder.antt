@@ -1,5 +1,6 @@
 -- One order of one program of the machine.
-use Rattle.std.proofs.Common.{◌≡◌, ◌≢◌, ℕ, zero, suc, ◌+◌, ◌<◌, ◌≤◌, ◌⊎◌, inl, inr, Bool, true, false, List, [], ◌∷◌, length, get_or, set, Option, Some, None, is_some, cond, refl, sym, ap, ◌∙◌, subst, ⊎_elim, arith}
+use Rattle.std.proofs.Common.{◌≡◌, ◌≢◌, ℕ, zero, suc, ◌+◌, ◌<◌, ◌≤◌, ◌⊎◌, inl, inr, Bool, true, false, List, [], ◌∷◌, length, get_or, set, Option, Some, None}
+use Rattle.std.proofs.Common.{is_some, cond, refl, sym, ap, ◌∙◌, subst, ⊎_elim, arith}
 use Rattle.std.proofs.lemmas.Bool.{cases_eq, cases_lt}
 use Rattle.std.proofs.lemmas.List.{get_or-set_same, get_or-set_other, length-set}
 use Rattle.kdf_processor.specs.declared.step.Need.{Need}
@@ -24,7 +25,8 @@ use Rattle.kdf_places.specs.Spots.{own_from, spot_at}
 use Rattle.kdf_director.specs.Fields.Turned.{seat_after}
 use Rattle.kdf_theory.proofs.Seen.EffectsChecked.{IsLawful, next_lawful, later_none}
 use Rattle.kdf_director.proofs.Physical.PoolDevices.{has_pooled}
-use Rattle.kdf_director.proofs.Turns.OrdersTried.{IsOther, IsPart, acts_active, acts_gains, acts_keeps, acts_kept, acts_own, acts_other, acts_other_kept, acts_settles, acts_sound}
+use Rattle.kdf_director.proofs.Turns.OrdersTried.{IsOther, IsPart, acts_active, acts_gains, acts_keeps, acts_kept, acts_own, acts_other, acts_other_kept}
+use Rattle.kdf_director.proofs.Turns.OrdersTried.{acts_settles, acts_sound}
 use Rattle.kdf_director.proofs.Physical.PartsAlike.{SamePart}
 
 abbrev pub state : Registers → Stock → State
@@ -39,13 +41,15 @@ pub unlent_by : (seats : List Seat) (d : ℕ) → is_lent_by seats d ≡ false �
 unlent_by [] d none j lt = absurd (omega arith)
 unlent_by (x ∷ seats) d none j lt = of (lends x.stints d) refl none (λ rest. unlent_by seats d rest) j lt
   where
-    of : (b : Bool) → lends x.stints d ≡ b → is_some (cond b (Some x.p) (borrower seats d)) ≡ false → (is_lent_by seats d ≡ false → IsUnlent seats d) → (j : ℕ) → j < length (x ∷ seats) → lends (seat_at (x ∷ seats) j).stints d ≡ false
+    of : (b : Bool) → lends x.stints d ≡ b → is_some (cond b (Some x.p) (borrower seats d)) ≡ false → (is_lent_by seats d ≡ false → IsUnlent seats d) → (j : ℕ)
+        → j < length (x ∷ seats) → lends (seat_at (x ∷ seats) j).stints d ≡ false
     of true is none later j lt = cc
     of false is none later zero lt = is
     of false is none later (suc j) lt = later none j (omega arith)
 
 -- the part of a live program
-pub is_part : (reaches : List Reach) (seats : List Seat) (t : Moment) (s : Shared) (p : ℕ) → IsRunning reaches seats s → p < length seats → is_live (seat_at seats p).registers.state ≡ true → IsPart (part_at reaches seats p) (told_by seats t) s
+pub is_part : (reaches : List Reach) (seats : List Seat) (t : Moment) (s : Shared) (p : ℕ) → IsRunning reaches seats s → p < length seats
+    → is_live (seat_at seats p).registers.state ≡ true → IsPart (part_at reaches seats p) (told_by seats t) s
 is_part reaches seats t s p run lt live =
     record {
       at_group = run.at_group p lt;
@@ -56,7 +60,9 @@ is_part reaches seats t s p run lt live =
     }
 
 -- two windows are apart
-pub parts_apart : (reaches : List Reach) (seats : List Seat) (s : Shared) (p r : ℕ) → IsRunning reaches seats s → p < length seats → r < length seats → p ≢ r → ((part_at reaches seats p).base + (part_at reaches seats p).size ≤ (part_at reaches seats r).base) ⊎ ((part_at reaches seats r).base + (part_at reaches seats r).size ≤ (part_at reaches seats p).base)
+pub parts_apart : (reaches : List Reach) (seats : List Seat) (s : Shared) (p r : ℕ) → IsRunning reaches seats s → p < length seats → r < length seats → p ≢ r
+    → ((part_at reaches seats p).base + (part_at reaches seats p).size ≤ (part_at reaches seats r).base)
+    ⊎ ((part_at reaches seats r).base + (part_at reaches seats r).size ≤ (part_at reaches seats p).base)
 parts_apart reaches seats s p r run lt lt' ne =
     ⊎_elim
     (λ (low : p < r). inl (run.apart p r low lt'))
@@ -64,7 +70,8 @@ parts_apart reaches seats s p r run lt lt' ne =
     (cases_lt p r)
 
 -- and have other numbers
-pub numbers_apart : (reaches : List Reach) (seats : List Seat) (s : Shared) (p r : ℕ) → IsRunning reaches seats s → p < length seats → r < length seats → p ≢ r → (seat_at seats p).p ≢ (seat_at seats r).p
+pub numbers_apart : (reaches : List Reach) (seats : List Seat) (s : Shared) (p r : ℕ) → IsRunning reaches seats s → p < length seats → r < length seats → p ≢ r
+    → (seat_at seats p).p ≢ (seat_at seats r).p
 numbers_apart reaches seats s p r run lt lt' ne same =
     ⊎_elim
     (λ (low : p < r). let a = run.numbered p r low lt' in absurd (omega arith))
@@ -72,7 +79,8 @@ numbers_apart reaches seats s p r run lt lt' ne same =
     (cases_lt p r)
 
 -- and another's
-pub is_other : (reaches : List Reach) (seats : List Seat) (s : Shared) (p x : ℕ) → IsRunning reaches seats s → p < length seats → x < length seats → x ≢ p → IsOther (part_at reaches seats p) (part_at reaches seats x) s
+pub is_other : (reaches : List Reach) (seats : List Seat) (s : Shared) (p x : ℕ) → IsRunning reaches seats s → p < length seats → x < length seats → x ≢ p
+    → IsOther (part_at reaches seats p) (part_at reaches seats x) s
 is_other reaches seats s p x run lt lt' ne =
     record {
       apart = parts_apart reaches seats s p x run lt lt' (λ i. ne (sym i));
@@ -179,19 +187,22 @@ module _ (reaches : List Reach) (seats : List Seat) (t : Moment) (s : Shared) (p
       at_act (Spools stream first last) = refl
 
   -- its own state
-  pub tried_own : live → (n : ℕ) (o : Option Need) → hold_of reaches seats s p ≡ o → own_state reaches (later o) (shared o) (asked_after n (by o).act) p ≡ tried (by o) (own_state reaches seats s n p)
+  pub tried_own : live → (n : ℕ) (o : Option Need) → hold_of reaches seats s p ≡ o → own_state reaches (later o) (shared o) (asked_after n (by o).act) p
+      ≡ tried (by o) (own_state reaches seats s n p)
   unfolding own_state
   tried_own is_on n o is =
       ap (λ (y : Seat). state y.registers (own_stock (part_in y (reach_at reaches p)) (asked_after n (by o).act) (shared o))) (there o)
       ∙ ap (λ (x : Part). state (by o).registers (own_stock x (asked_after n (by o).act) (shared o))) (part_new o)
       ∙ ap (state (by o).registers) (at_hold o is)
     where
-      at_hold : (o : Option Need) → hold_of reaches seats s p ≡ o → own_stock (part_after q s (by o).act) (asked_after n (by o).act) (shared o) ≡ begun (by o).act (own_stock q n s)
+      at_hold : (o : Option Need) → hold_of reaches seats s p ≡ o → own_stock (part_after q s (by o).act) (asked_after n (by o).act) (shared o)
+          ≡ begun (by o).act (own_stock q n s)
       at_hold (Some need) is = refl
       at_hold None is = acts_own q told s r own run.sound (part is_on) n e lawful (free is)
 
   -- another program's state
-  pub tried_other : live → (n : ℕ) (o : Option Need) → hold_of reaches seats s p ≡ o → (x : ℕ) → x < length seats → x ≢ p → own_state reaches (later o) (shared o) n x ≡ own_state reaches seats s n x
+  pub tried_other : live → (n : ℕ) (o : Option Need) → hold_of reaches seats s p ≡ o → (x : ℕ) → x < length seats → x ≢ p
+      → own_state reaches (later o) (shared o) n x ≡ own_state reaches seats s n x
   unfolding own_state
   tried_other is_on n o is x lt' ne =
       ap (λ (y : Seat). state y.registers (own_stock (part_in y (reach_at reaches x)) n (shared o))) (get_or-set_other seats p x (new o) no_seat ne)
@@ -199,7 +210,8 @@ module _ (reaches : List Reach) (seats : List Seat) (t : Moment) (s : Shared) (p
     where
       stays : (o : Option Need) → hold_of reaches seats s p ≡ o → own_stock (part_at reaches seats x) n (shared o) ≡ own_stock (part_at reaches seats x) n s
       stays (Some need) is = refl
-      stays None is = acts_other q told s r own run.sound (part is_on) n (part_at reaches seats x) (is_other reaches seats s p x run lt lt' ne) e lawful (free is)
+      stays None is = acts_other q told s r own run.sound (part is_on) n (part_at reaches seats x) (is_other reaches seats s p x run lt lt' ne) e lawful
+          (free is)
 
   pub tried_sound : live → (o : Option Need) → hold_of reaches seats s p ≡ o → IsSound (shared o)
   tried_sound is_on (Some need) is = run.sound
@@ -211,7 +223,8 @@ module _ (reaches : List Reach) (seats : List Seat) (t : Moment) (s : Shared) (p
       ⊎_elim
       (λ (same : x ≡ p).
       subst (λ k. IsKept (part_at reaches (later o) k) (shared o)) (sym same)
-      (subst (λ (y : Seat). IsKept (part_in y (reach_at reaches p)) (shared o)) (sym (there o)) (subst (λ y. IsKept y (shared o)) (sym (part_new o)) (its o is))))
+      (subst (λ (y : Seat). IsKept (part_in y (reach_at reaches p)) (shared o)) (sym (there o))
+      (subst (λ y. IsKept y (shared o)) (sym (part_new o)) (its o is))))
       (λ (ne : x ≢ p).
       subst (λ (y : Seat). IsKept (part_in y (reach_at reaches x)) (shared o)) (sym (get_or-set_other seats p x (new o) no_seat ne)) (others o is ne))
       (cases_eq x p)
@@ -222,10 +235,12 @@ module _ (reaches : List Reach) (seats : List Seat) (t : Moment) (s : Shared) (p
 
       others : (o : Option Need) → hold_of reaches seats s p ≡ o → x ≢ p → IsKept (part_at reaches seats x) (shared o)
       others (Some need) is ne = run.kept x lt'
-      others None is ne = acts_other_kept q told s r own run.sound (part is_on) (part_at reaches seats x) (is_other reaches seats s p x run lt lt' ne) e lawful (free is)
+      others None is ne = acts_other_kept q told s r own run.sound (part is_on) (part_at reaches seats x) (is_other reaches seats s p x run lt lt' ne) e lawful
+          (free is)
 
   -- and has claimed, while it is live
-  pub tried_active : live → (o : Option Need) → hold_of reaches seats s p ≡ o → (x : ℕ) → x < length seats → is_live (seat_at (later o) x).registers.state ≡ true → IsActive (part_at reaches (later o) x)
+  pub tried_active : live → (o : Option Need) → hold_of reaches seats s p ≡ o → (x : ℕ) → x < length seats
+      → is_live (seat_at (later o) x).registers.state ≡ true → IsActive (part_at reaches (later o) x)
   tried_active is_on o is x lt' live_then =
       ⊎_elim
       (λ (same : x ≡ p).
@@ -257,7 +272,8 @@ module _ (reaches : List Reach) (seats : List Seat) (t : Moment) (s : Shared) (p
   -- no other program has one of the pool that was nobody's
   nobody_else : (d x : ℕ) → x < length seats → in_pool q d ≡ true → is_lent_by seats d ≡ false → has_device (part_at reaches seats x) d ≡ false
   nobody_else d x lt' pooled none =
-      has_pooled (part_at reaches seats x) s d (run.kept x lt') (ap (λ ks. is_some (get_or ks d (let k : Option Kind = None in k))) (run.common x p lt' lt) ∙ pooled)
+      has_pooled (part_at reaches seats x) s d (run.kept x lt') (ap (λ ks. is_some (get_or ks d (let k : Option Kind = None in k))) (run.common x p lt' lt)
+      ∙ pooled)
       ∙ unlent_by seats d none x lt'
 
   pub tried_gains : live → (o : Option Need) → hold_of reaches seats s p ≡ o → (i d : ℕ) → i < length seats → has_device (part_at reaches (later o) i) d ≡ true
@@ -273,23 +289,28 @@ module _ (reaches : List Reach) (seats : List Seat) (t : Moment) (s : Shared) (p
       (λ (ne : i ≢ p). inl (sym (other_devices o i d ne) ∙ has))
       (cases_eq i p)
     where
-      gains : (o : Option Need) → hold_of reaches seats s p ≡ o → has_device (part_after q s (by o).act) d ≡ true → (has_device q d ≡ true) ⊎ ((in_pool q d ≡ true) × (is_lent_by seats d ≡ false))
+      gains : (o : Option Need) → hold_of reaches seats s p ≡ o → has_device (part_after q s (by o).act) d ≡ true → (has_device q d ≡ true)
+          ⊎ ((in_pool q d ≡ true) × (is_lent_by seats d ≡ false))
       gains (Some need) is has = inl has
       gains None is has = acts_gains q told s r own run.sound (part is_on) e lawful (free is) d has
 
-  pub tried_keeps : live → (o : Option Need) → hold_of reaches seats s p ≡ o → (i d : ℕ) → i < length seats → is_some (spot_at (shared o).spots d).flight ≡ true → has_device (part_at reaches seats i) d ≡ true → has_device (part_at reaches (later o) i) d ≡ true
+  pub tried_keeps : live → (o : Option Need) → hold_of reaches seats s p ≡ o → (i d : ℕ) → i < length seats
+      → is_some (spot_at (shared o).spots d).flight ≡ true → has_device (part_at reaches seats i) d ≡ true → has_device (part_at reaches (later o) i) d ≡ true
   tried_keeps is_on o is i d lt' flies has =
       ⊎_elim
       (λ (same : i ≡ p).
-      ap (λ k. has_device (part_at reaches (later o) k) d) same ∙ its_devices o d ∙ keeps o is flies (ap (λ k. has_device (part_at reaches seats k) d) (sym same) ∙ has))
+      ap (λ k. has_device (part_at reaches (later o) k) d) same ∙ its_devices o d
+      ∙ keeps o is flies (ap (λ k. has_device (part_at reaches seats k) d) (sym same) ∙ has))
       (λ (ne : i ≢ p). other_devices o i d ne ∙ has)
       (cases_eq i p)
     where
-      keeps : (o : Option Need) → hold_of reaches seats s p ≡ o → is_some (spot_at (shared o).spots d).flight ≡ true → has_device q d ≡ true → has_device (part_after q s (by o).act) d ≡ true
+      keeps : (o : Option Need) → hold_of reaches seats s p ≡ o → is_some (spot_at (shared o).spots d).flight ≡ true → has_device q d ≡ true
+          → has_device (part_after q s (by o).act) d ≡ true
       keeps (Some need) is flies has = has
       keeps None is flies has = acts_keeps q told s r own run.sound (part is_on) e lawful (free is) d flies has
 
-  pub tried_fresh : live → (o : Option Need) → hold_of reaches seats s p ≡ o → (i d : ℕ) → i < length seats → in_pool (part_at reaches seats i) d ≡ true → IsUnlent (later o) d → (spot_at (shared o).spots d).progress ≡ new_progress
+  pub tried_fresh : live → (o : Option Need) → hold_of reaches seats s p ≡ o → (i d : ℕ) → i < length seats → in_pool (part_at reaches seats i) d ≡ true
+      → IsUnlent (later o) d → (spot_at (shared o).spots d).progress ≡ new_progress
   tried_fresh is_on o is i d lt' pooled unlent =
       ⊎_elim
       (λ (was : (lends q.stints d ≡ false) × ((spot_at (shared o).spots d).progress ≡ (spot_at s.spots d).progress)).
@@ -302,6 +323,7 @@ module _ (reaches : List Reach) (seats : List Seat) (t : Moment) (s : Shared) (p
       (settles o is (sym (its_stints o d) ∙ unlent p (omega (arith, length-set seats p (new o)))))
     where
       settles : (o : Option Need) → hold_of reaches seats s p ≡ o → lends (part_after q s (by o).act).stints d ≡ false
-          → ((lends q.stints d ≡ false) × ((spot_at (shared o).spots d).progress ≡ (spot_at s.spots d).progress)) ⊎ ((spot_at (shared o).spots d).progress ≡ new_progress)
+          → ((lends q.stints d ≡ false) × ((spot_at (shared o).spots d).progress ≡ (spot_at s.spots d).progress))
+          ⊎ ((spot_at (shared o).spots d).progress ≡ new_progress)
       settles (Some need) is none = inl (none, refl)
       settles None is none = acts_settles q told s r own run.sound (part is_on) e lawful (free is) d none

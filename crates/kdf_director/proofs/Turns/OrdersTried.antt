@@ -1,7 +1,8 @@
 -- The next order of a program is tried.
 use Rattle.std.specs.Prelude.{not, unwrap_or}
 use Rattle.std.specs.List.{range_with_len}
-use Rattle.std.proofs.Common.{◌≡◌, ◌≢◌, ℕ, ◌+◌, ◌*◌, ◌/◌, ◌%◌, ◌<◌, ◌≤◌, ◌⊎◌, inl, inr, ◌&&◌, ◌||◌, Bool, true, false, List, [], ◌∷◌, ◌++◌, length, get_or, set, Option, Some, None, is_some, cond, eqb, ltb, refl, sym, ap, ◌∙◌, subst, ⊎_elim, arith}
+use Rattle.std.proofs.Common.{◌≡◌, ◌≢◌, ℕ, ◌+◌, ◌*◌, ◌/◌, ◌%◌, ◌<◌, ◌≤◌, ◌⊎◌, inl, inr, ◌&&◌, ◌||◌, Bool, true, false, List, [], ◌∷◌, ◌++◌, length, get_or, set}
+use Rattle.std.proofs.Common.{Option, Some, None, is_some, cond, eqb, ltb, refl, sym, ap, ◌∙◌, subst, ⊎_elim, arith}
 use Rattle.std.proofs.lemmas.Bool.{and_from, and_parts, cases_Bool, cases_eq, cases_lt, or_parts, or_right}
 use Rattle.kdf_journal.specs.declared.kind.Kind.{Kind}
 use Rattle.kdf_lockout.specs.Groups.{Cells, is_out, with_word}
@@ -33,7 +34,10 @@ use Rattle.kdf_places.specs.Transfers.{start_cells, start_spot, IsFreeArea}
 use Rattle.kdf_director.proofs.Physical.OrdersAct.{writes_own, writes_other, starts_own}
 use Rattle.kdf_director.proofs.Physical.GroupsKept.{sound-writes, sound-starts}
 use Rattle.kdf_director.proofs.Physical.StintsChange.{and_none, lends_push, lends_there}
-use Rattle.kdf_director.proofs.Physical.PoolDevices.{IsFree, IsIts, active-marked, active-spooled, emptied, giver, gone_active, gone_from, gone_inside, gone_kept, gone_kind, gone_other, gone_other_kept, gone_own, gone_sound, has_it, has_pooled, kept-cells, kept-marked, kept-same, kept-spooled, taken_active, taken_elsewhere, taken_kept, taken_own, taken_there, taker}
+use Rattle.kdf_director.proofs.Physical.PoolDevices.{IsFree, IsIts, active-marked, active-spooled, emptied, giver, gone_active, gone_from, gone_inside}
+use Rattle.kdf_director.proofs.Physical.PoolDevices.{gone_kept, gone_kind, gone_other, gone_other_kept, gone_own, gone_sound, has_it, has_pooled, kept-cells}
+use Rattle.kdf_director.proofs.Physical.PoolDevices.{kept-marked, kept-same, kept-spooled, taken_active, taken_elsewhere, taken_kept, taken_own, taken_there}
+use Rattle.kdf_director.proofs.Physical.PoolDevices.{taker}
 use Rattle.kdf_director.proofs.Physical.PartsShow.{claim_fixture, claim_has, claim_small, claimed_has, none_kind, own_is, owned_some}
 use Rattle.kdf_director.proofs.Physical.PlacesAlike.{same_at}
 use Rattle.kdf_director.specs.Fields.Stints.{lends}
@@ -60,7 +64,8 @@ idle_of None h = refl
 idle_of (Some x) h = cc
 
 -- a group that isn't pending is here
-here_of : (q : Part) (t : Setting) (s : Shared) (a : ℕ) → q.base % 32 ≡ 0 → first_pending (view q t s) (Group (a / 32) ∷ []) ≡ None → is_out s.cells ((q.base + a) / 32) ≡ false
+here_of : (q : Part) (t : Setting) (s : Shared) (a : ℕ) → q.base % 32 ≡ 0 → first_pending (view q t s) (Group (a / 32) ∷ []) ≡ None
+    → is_out s.cells ((q.base + a) / 32) ≡ false
 here_of q t s a at none =
     let e : (q.base + a) / 32 ≡ q.base / 32 + a / 32 = omega arith in
     ap (is_out s.cells) e
@@ -70,7 +75,9 @@ here_of q t s a at none =
     (cases_Bool (is_out s.cells (q.base / 32 + a / 32)))
 
 -- what is known where a transfer may begin
-module _ (q : Part) (t : Setting) (s : Shared) (d : ℕ) (o : TransferOrder) (first last : ℕ) (after : Registers) (own : List ℕ) (part : IsPart q t s) (lawful : IsLawful (own_claims q s) (Starting d o first last after)) (free : first_pending (view q t s) (effect_needs own (Starting d o first last after)) ≡ None) where
+module _ (q : Part) (t : Setting) (s : Shared) (d : ℕ) (o : TransferOrder) (first last : ℕ) (after : Registers) (own : List ℕ) (part : IsPart q t s)
+    (lawful : IsLawful (own_claims q s) (Starting d o first last after)) (free : first_pending (view q t s) (effect_needs own (Starting d o first last after))
+    ≡ None) where
   pub start_has : has_device q d ≡ true
   start_has = claim_has q s d (kind_of o) part.kept part.active lawful.0
 
@@ -140,7 +147,8 @@ module _ (q : Part) (t : Setting) (s : Shared) (kind : Kind) (part : IsPart q t 
   lent_is a is = ap (λ b. cond b a (unwrap_or (least_pooled (own_claims q s) kind) 0)) (take_at a is)
 
   -- the device of a number that is found
-  untaken : {P : ℕ → Type 0} → ((a : ℕ) → is_free_in q.pool t.taken kind a ≡ true → P a) → is_some (free_in q.pool t.taken kind) ≡ true → P (lent_to q s kind (unwrap_or (free_in q.pool t.taken kind) 0))
+  untaken : {P : ℕ → Type 0} → ((a : ℕ) → is_free_in q.pool t.taken kind a ≡ true → P a) → is_some (free_in q.pool t.taken kind) ≡ true
+      → P (lent_to q s kind (unwrap_or (free_in q.pool t.taken kind) 0))
   unfolding free_in
   untaken {P} each some = of (free_in q.pool t.taken kind) refl some
     where
@@ -150,7 +158,8 @@ module _ (q : Part) (t : Setting) (s : Shared) (kind : Kind) (part : IsPart q t 
           let free = found (is_free_in q.pool t.taken kind) (range_with_len 0 device_count) a is in
           subst P (sym (lent_is a free)) (each a free)
 
-  answers : is_some (free_in q.pool t.taken kind) ≡ true → lent_to q s kind (unwrap_or (free_in q.pool t.taken kind) 0) ≡ unwrap_or (free_in q.pool t.taken kind) 0
+  answers : is_some (free_in q.pool t.taken kind) ≡ true → lent_to q s kind (unwrap_or (free_in q.pool t.taken kind) 0)
+      ≡ unwrap_or (free_in q.pool t.taken kind) 0
   unfolding free_in
   answers some = of (free_in q.pool t.taken kind) refl some
     where
@@ -168,10 +177,12 @@ module _ (q : Part) (t : Setting) (s : Shared) (kind : Kind) (part : IsPart q t 
   pub take_free : first_pending (view q t s) (Pool kind ∷ []) ≡ None → IsFree q (lent_to q s kind ((view q t s).answer (FreeOf kind)))
   take_free free = untaken {P = IsFree q} free_at (take_some free)
 
-  pub take_nobodys : first_pending (view q t s) (Pool kind ∷ []) ≡ None → (in_pool q (lent_to q s kind ((view q t s).answer (FreeOf kind))) ≡ true) × (t.taken (lent_to q s kind ((view q t s).answer (FreeOf kind))) ≡ false)
+  pub take_nobodys : first_pending (view q t s) (Pool kind ∷ []) ≡ None → (in_pool q (lent_to q s kind ((view q t s).answer (FreeOf kind))) ≡ true)
+      × (t.taken (lent_to q s kind ((view q t s).answer (FreeOf kind))) ≡ false)
   take_nobodys free = untaken {P = λ a. (in_pool q a ≡ true) × (t.taken a ≡ false)} nobodys (take_some free)
 
-  pub take_fresh : first_pending (view q t s) (Pool kind ∷ []) ≡ None → (spot_at s.spots (lent_to q s kind ((view q t s).answer (FreeOf kind)))).progress ≡ new_progress
+  pub take_fresh : first_pending (view q t s) (Pool kind ∷ []) ≡ None → (spot_at s.spots (lent_to q s kind ((view q t s).answer (FreeOf kind)))).progress
+      ≡ new_progress
   take_fresh free = let its = take_nobodys free in (part.untaken (lent_to q s kind ((view q t s).answer (FreeOf kind))) its.0 its.1).1
 
   -- the answer is that device
@@ -186,7 +197,8 @@ idle_at q t s d free = idle_of (spot_at s.spots d).flight (of (is_some (spot_at 
     of true none = cc
     of false none = refl
 
-pub give_its : (q : Part) (t : Setting) (s : Shared) (d : ℕ) (after : Registers) → IsPart q t s → IsLawful (own_claims q s) (Returning true d after) → first_pending (view q t s) (Device d ∷ []) ≡ None → IsIts q s d
+pub give_its : (q : Part) (t : Setting) (s : Shared) (d : ℕ) (after : Registers) → IsPart q t s → IsLawful (own_claims q s) (Returning true d after)
+    → first_pending (view q t s) (Device d ∷ []) ≡ None → IsIts q s d
 give_its q t s d after part lawful free =
     let pooled : in_pool q d ≡ true = sym lawful.0 in
     record { pooled = pooled; lent = sym (has_pooled q s d part.kept pooled) ∙ claimed_has q s d part.active lawful.1; idle = idle_at q t s d free }
@@ -206,7 +218,9 @@ spooled_after q s stream first last = q.spooled ++ record { stream = stream; tex
 -- an effect none of whose needs is pending
 module _ (q : Part) (t : Setting) (s : Shared) (r : Registers) (own : List ℕ) (sound : IsSound s) (part : IsPart q t s) where
   -- what the program has beside its registers
-  pub acts_own : (n : ℕ) (e : Effect) → IsLawful (own_claims q s) e → first_pending (view q t s) (effect_needs own e) ≡ None → own_stock (part_after q s (done (view q t s) r e).act) (asked_after n (done (view q t s) r e).act) (after_act q s (done (view q t s) r e).act) ≡ begun (done (view q t s) r e).act (own_stock q n s)
+  pub acts_own : (n : ℕ) (e : Effect) → IsLawful (own_claims q s) e → first_pending (view q t s) (effect_needs own e) ≡ None
+      → own_stock (part_after q s (done (view q t s) r e).act) (asked_after n (done (view q t s) r e).act) (after_act q s (done (view q t s) r e).act)
+      ≡ begun (done (view q t s) r e).act (own_stock q n s)
   acts_own n (Keeping a w after) lawful free = writes_own q n s a (w ((view q t s).word a)) sound part.in_store lawful (here_of q t s a part.at_group free)
   acts_own n (Starting d o first last after) lawful free =
       starts_own s q d o first last sound
@@ -215,12 +229,14 @@ module _ (q : Part) (t : Setting) (s : Shared) (r : Registers) (own : List ℕ) 
       (start_free q t s d o first last after own part lawful free) q n
       (λ _. start_fixture q t s d o first last after own part lawful free)
   acts_own n (Asking (FreeOf kind) after) lawful free =
-      taken_own q s (lent_to q s kind ((view q t s).answer (FreeOf kind))) part.kept (take_free q t s kind part free) (take_fresh q t s kind part free) part.active n
+      taken_own q s (lent_to q s kind ((view q t s).answer (FreeOf kind))) part.kept (take_free q t s kind part free) (take_fresh q t s kind part free)
+      part.active n
   acts_own n (Returning true d after) lawful free = gone_own q s d sound part.kept (give_its q t s d after part lawful free) part.active n
   acts_own n (Returning false d after) lawful free = refl
   acts_own n e lawful free = refl
 
-  pub acts_kept : (e : Effect) → IsLawful (own_claims q s) e → first_pending (view q t s) (effect_needs own e) ≡ None → IsKept (part_after q s (done (view q t s) r e).act) (after_act q s (done (view q t s) r e).act)
+  pub acts_kept : (e : Effect) → IsLawful (own_claims q s) e → first_pending (view q t s) (effect_needs own e) ≡ None
+      → IsKept (part_after q s (done (view q t s) r e).act) (after_act q s (done (view q t s) r e).act)
   acts_kept (Keeping a w after) lawful free = kept-cells q s (with_word s.cells (q.base + a) (w ((view q t s).word a))) part.kept
   acts_kept (Starting d o first last after) lawful free = start_kept q t s d o first last after own part lawful free sound q part.kept
   acts_kept (Asking (FreeOf kind) after) lawful free =
@@ -233,7 +249,8 @@ module _ (q : Part) (t : Setting) (s : Shared) (r : Registers) (own : List ℕ) 
   acts_kept (Spooling stream first last after) lawful free = kept-spooled q s (spooled_after q s stream first last) part.kept
   acts_kept e lawful free = part.kept
 
-  pub acts_active : (e : Effect) → IsLawful (own_claims q s) e → first_pending (view q t s) (effect_needs own e) ≡ None → IsActive (part_after q s (done (view q t s) r e).act)
+  pub acts_active : (e : Effect) → IsLawful (own_claims q s) e → first_pending (view q t s) (effect_needs own e) ≡ None
+      → IsActive (part_after q s (done (view q t s) r e).act)
   acts_active (Asking (FreeOf kind) after) lawful free =
       taken_active q s (lent_to q s kind ((view q t s).answer (FreeOf kind))) part.kept (take_free q t s kind part free) part.active
   acts_active (Claiming d after) lawful free = active-marked q d true (own_apart q s d part.kept lawful) part.active
@@ -245,7 +262,8 @@ module _ (q : Part) (t : Setting) (s : Shared) (r : Registers) (own : List ℕ) 
   acts_active e lawful free = part.active
 
   -- a device that the program has then it had, or it is one of the pool that was nobody's
-  pub acts_gains : (e : Effect) → IsLawful (own_claims q s) e → first_pending (view q t s) (effect_needs own e) ≡ None → (d : ℕ) → has_device (part_after q s (done (view q t s) r e).act) d ≡ true → (has_device q d ≡ true) ⊎ ((in_pool q d ≡ true) × (t.taken d ≡ false))
+  pub acts_gains : (e : Effect) → IsLawful (own_claims q s) e → first_pending (view q t s) (effect_needs own e) ≡ None → (d : ℕ)
+      → has_device (part_after q s (done (view q t s) r e).act) d ≡ true → (has_device q d ≡ true) ⊎ ((in_pool q d ≡ true) × (t.taken d ≡ false))
   acts_gains (Asking (FreeOf kind) after) lawful free d has =
       let x = lent_to q s kind ((view q t s).answer (FreeOf kind)) in
       ⊎_elim
@@ -257,14 +275,17 @@ module _ (q : Part) (t : Setting) (s : Shared) (r : Registers) (own : List ℕ) 
       let loan = back_from (spot_at s.spots x) in
       ⊎_elim
       (λ (same : d ≡ x).
-      cc (sym (gone_from q s x sound part.kept its (set q.claimed x false) loan (gone_kind q s x sound part.kept its) refl) ∙ (ap (has_device (giver (set q.claimed x false) x loan q)) (sym same) ∙ has)))
+      cc (sym (gone_from q s x sound part.kept its (set q.claimed x false) loan (gone_kind q s x sound part.kept its) refl)
+      ∙ (ap (has_device (giver (set q.claimed x false) x loan q)) (sym same) ∙ has)))
       (λ (ne : d ≢ x). inl (sym (ap (λ b. owns q.devices d || b) (lends_there q.stints x d loan ne)) ∙ has))
       (cases_eq d x)
   acts_gains (Returning false x after) lawful free d has = inl has
   acts_gains e lawful free d has = inl has
 
   -- it has the device of a transfer still
-  pub acts_keeps : (e : Effect) → IsLawful (own_claims q s) e → first_pending (view q t s) (effect_needs own e) ≡ None → (d : ℕ) → is_some (spot_at (after_act q s (done (view q t s) r e).act).spots d).flight ≡ true → has_device q d ≡ true → has_device (part_after q s (done (view q t s) r e).act) d ≡ true
+  pub acts_keeps : (e : Effect) → IsLawful (own_claims q s) e → first_pending (view q t s) (effect_needs own e) ≡ None → (d : ℕ)
+      → is_some (spot_at (after_act q s (done (view q t s) r e).act).spots d).flight ≡ true → has_device q d ≡ true
+      → has_device (part_after q s (done (view q t s) r e).act) d ≡ true
   acts_keeps (Asking (FreeOf kind) after) lawful free d flies has =
       let x = lent_to q s kind ((view q t s).answer (FreeOf kind)) in
       ⊎_elim
@@ -275,15 +296,19 @@ module _ (q : Part) (t : Setting) (s : Shared) (r : Registers) (own : List ℕ) 
       let its = give_its q t s x after part lawful free in
       ⊎_elim
       (λ (same : d ≡ x).
-      cc (sym (ap (λ k. is_some (spot_at (emptied x s).spots k).flight) same ∙ ap (λ (y : Spot). is_some y.flight) (get_or-set_same s.spots x (blank_spot (spot_at s.spots x)) no_spot (gone_inside q s x sound part.kept its))) ∙ flies))
+      cc (sym (ap (λ k. is_some (spot_at (emptied x s).spots k).flight) same
+      ∙ ap (λ (y : Spot). is_some y.flight) (get_or-set_same s.spots x (blank_spot (spot_at s.spots x)) no_spot (gone_inside q s x sound part.kept its)))
+      ∙ flies))
       (λ (ne : d ≢ x). ap (λ b. owns q.devices d || b) (lends_there q.stints x d (back_from (spot_at s.spots x)) ne) ∙ has)
       (cases_eq d x)
   acts_keeps (Returning false x after) lawful free d flies has = has
   acts_keeps e lawful free d flies has = has
 
   -- a device of the pool that it doesn't have then has moved nothing, or it has moved what it had, and wasn't the program's
-  pub acts_settles : (e : Effect) → IsLawful (own_claims q s) e → first_pending (view q t s) (effect_needs own e) ≡ None → (d : ℕ) → lends (part_after q s (done (view q t s) r e).act).stints d ≡ false
-      → ((lends q.stints d ≡ false) × ((spot_at (after_act q s (done (view q t s) r e).act).spots d).progress ≡ (spot_at s.spots d).progress)) ⊎ ((spot_at (after_act q s (done (view q t s) r e).act).spots d).progress ≡ new_progress)
+  pub acts_settles : (e : Effect) → IsLawful (own_claims q s) e → first_pending (view q t s) (effect_needs own e) ≡ None → (d : ℕ)
+      → lends (part_after q s (done (view q t s) r e).act).stints d ≡ false
+      → ((lends q.stints d ≡ false) × ((spot_at (after_act q s (done (view q t s) r e).act).spots d).progress ≡ (spot_at s.spots d).progress))
+      ⊎ ((spot_at (after_act q s (done (view q t s) r e).act).spots d).progress ≡ new_progress)
   acts_settles (Starting x o first last after) lawful free d none =
       inl (none, same_at (λ (y : Spot). y.progress) s.spots x d (start_spot q.p o (q.base + first) (q.base + last) s.cells (spot_at s.spots x)) refl)
   acts_settles (Asking (FreeOf kind) after) lawful free d none =
@@ -292,15 +317,22 @@ module _ (q : Part) (t : Setting) (s : Shared) (r : Registers) (own : List ℕ) 
   acts_settles (Returning true x after) lawful free d none =
       let its = give_its q t s x after part lawful free in
       ⊎_elim
-      (λ (same : d ≡ x). inr (ap (λ k. (spot_at (emptied x s).spots k).progress) same ∙ ap (λ (y : Spot). y.progress) (get_or-set_same s.spots x (blank_spot (spot_at s.spots x)) no_spot (gone_inside q s x sound part.kept its))))
-      (λ (ne : d ≢ x). inl (sym (lends_there q.stints x d (back_from (spot_at s.spots x)) ne) ∙ none, ap (λ (y : Spot). y.progress) (get_or-set_other s.spots x d (blank_spot (spot_at s.spots x)) no_spot ne)))
+      (λ (same : d ≡ x). inr (ap (λ k. (spot_at (emptied x s).spots k).progress) same
+      ∙ ap (λ (y : Spot). y.progress) (get_or-set_same s.spots x (blank_spot (spot_at s.spots x)) no_spot (gone_inside q s x sound part.kept its))))
+      (λ (ne : d ≢ x). inl (
+        sym (lends_there q.stints x d (back_from (spot_at s.spots x)) ne)
+            ∙ none,
+        ap (λ (y : Spot). y.progress) (get_or-set_other s.spots x d (blank_spot (spot_at s.spots x)) no_spot ne),
+      ))
       (cases_eq d x)
   acts_settles (Returning false x after) lawful free d none = inl (none, refl)
   acts_settles e lawful free d none = inl (none, refl)
 
   -- and another program
-  pub acts_other : (n : ℕ) (x : Part) → IsOther q x s → (e : Effect) → IsLawful (own_claims q s) e → first_pending (view q t s) (effect_needs own e) ≡ None → own_stock x n (after_act q s (done (view q t s) r e).act) ≡ own_stock x n s
-  acts_other n x other (Keeping a w after) lawful free = writes_other q x n s a (w ((view q t s).word a)) sound part.in_store lawful (here_of q t s a part.at_group free) other.apart
+  pub acts_other : (n : ℕ) (x : Part) → IsOther q x s → (e : Effect) → IsLawful (own_claims q s) e → first_pending (view q t s) (effect_needs own e) ≡ None
+      → own_stock x n (after_act q s (done (view q t s) r e).act) ≡ own_stock x n s
+  acts_other n x other (Keeping a w after) lawful free = writes_other q x n s a (w ((view q t s).word a)) sound part.in_store lawful
+      (here_of q t s a part.at_group free) other.apart
   acts_other n x other (Starting d o first last after) lawful free =
       starts_own s q d o first last sound
       (start_small q t s d o first last after own part lawful free)
@@ -313,7 +345,8 @@ module _ (q : Part) (t : Setting) (s : Shared) (r : Registers) (own : List ℕ) 
   acts_other n x other (Returning false d after) lawful free = refl
   acts_other n x other e lawful free = refl
 
-  pub acts_other_kept : (x : Part) → IsOther q x s → (e : Effect) → IsLawful (own_claims q s) e → first_pending (view q t s) (effect_needs own e) ≡ None → IsKept x (after_act q s (done (view q t s) r e).act)
+  pub acts_other_kept : (x : Part) → IsOther q x s → (e : Effect) → IsLawful (own_claims q s) e → first_pending (view q t s) (effect_needs own e) ≡ None
+      → IsKept x (after_act q s (done (view q t s) r e).act)
   acts_other_kept x other (Keeping a w after) lawful free = kept-cells x s (with_word s.cells (q.base + a) (w ((view q t s).word a))) other.kept
   acts_other_kept x other (Starting d o first last after) lawful free = start_kept q t s d o first last after own part lawful free sound x other.kept
   acts_other_kept x other (Returning true d after) lawful free =
@@ -322,7 +355,8 @@ module _ (q : Part) (t : Setting) (s : Shared) (r : Registers) (own : List ℕ) 
   acts_other_kept x other (Returning false d after) lawful free = other.kept
   acts_other_kept x other e lawful free = other.kept
 
-  pub acts_sound : (e : Effect) → IsLawful (own_claims q s) e → first_pending (view q t s) (effect_needs own e) ≡ None → IsSound (after_act q s (done (view q t s) r e).act)
+  pub acts_sound : (e : Effect) → IsLawful (own_claims q s) e → first_pending (view q t s) (effect_needs own e) ≡ None
+      → IsSound (after_act q s (done (view q t s) r e).act)
   acts_sound (Keeping a w after) lawful free = sound-writes q s a (w ((view q t s).word a)) sound (here_of q t s a part.at_group free)
   acts_sound (Starting d o first last after) lawful free =
       sound-starts s q d o first last sound

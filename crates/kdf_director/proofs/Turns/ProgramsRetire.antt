@@ -1,6 +1,7 @@
 -- The devices that a program has from the pool leave their places once it is over.
 use Rattle.std.specs.Option.{option_map}
-use Rattle.std.proofs.Common.{◌≡◌, ◌≢◌, ℕ, ◌+◌, ◌<◌, ◌≤◌, inl, ◌&&◌, ◌||◌, Bool, true, false, List, [], ◌∷◌, length, get_or, map, set, zero, suc, Option, Some, None, is_none, is_some, cond, eqb, refl, sym, ap, ap₂, ◌∙◌, subst, ⊎_elim, arith}
+use Rattle.std.proofs.Common.{◌≡◌, ◌≢◌, ℕ, ◌+◌, ◌<◌, ◌≤◌, inl, ◌&&◌, ◌||◌, Bool, true, false, List, [], ◌∷◌, length, get_or, map, set, zero, suc, Option, Some}
+use Rattle.std.proofs.Common.{None, is_none, is_some, cond, eqb, refl, sym, ap, ap₂, ◌∙◌, subst, ⊎_elim, arith}
 use Rattle.std.proofs.lemmas.Bool.{and_from, and_parts, cases_Bool, cases_eq, cases_lt, eq-eqb, or_right}
 use Rattle.std.proofs.lemmas.List.{get_or_default, get_or-set_other, get_or-set_same, get_or_past, length-map, length-set, set-get_or, set-set}
 use Rattle.std.proofs.lemmas.List.Folds.{list_any_at, list_any_none}
@@ -20,7 +21,8 @@ use Rattle.kdf_director.specs.Fields.Settled.{Both, both_of, holder_over, kept_f
 use Rattle.kdf_places.specs.Spots.{Held, Spot, blank_spot, can_leave, fixture_or, is_of, no_spot, own_from, spot_at}
 use Rattle.kdf_director.specs.Fields.Stints.{Keeping, Loan, Lent, Left, Back, is_lent, is_open, lends, with_loan}
 use Rattle.kdf_director.proofs.Physical.StintsChange.{and_none, lends_there, set_one}
-use Rattle.kdf_director.proofs.Physical.PoolDevices.{IsIts, at_spot, emptied, gone_from, gone_kept, gone_kind, gone_other, gone_other_kept, gone_sound, has_it, left_own}
+use Rattle.kdf_director.proofs.Physical.PoolDevices.{IsIts, at_spot, emptied, gone_from, gone_kept, gone_kind, gone_other, gone_other_kept, gone_sound, has_it}
+use Rattle.kdf_director.proofs.Physical.PoolDevices.{left_own}
 use Rattle.kdf_director.proofs.Turns.MomentsKept.{running_by}
 use Rattle.kdf_director.proofs.Physical.PartsAlike.{SamePart}
 use Rattle.kdf_director.proofs.Turns.Borrowers.{borrower_none, borrower_same, others_none, taker_is}
@@ -37,7 +39,8 @@ pub record HasRetired (reaches : List Reach) (seats : List Seat) (i : ℕ) (s : 
   pub count : length b.seat.stints ≡ length (seat_at seats i).stints
 
 -- none of them
-pub retired_none : (reaches : List Reach) (seats : List Seat) (i : ℕ) (s : Shared) → IsRunning reaches seats s → HasRetired reaches seats i s (both_of (seat_at seats i) s)
+pub retired_none : (reaches : List Reach) (seats : List Seat) (i : ℕ) (s : Shared) → IsRunning reaches seats s
+    → HasRetired reaches seats i s (both_of (seat_at seats i) s)
 retired_none reaches seats i s run =
     let same = set-get_or seats i no_seat in
     record {
@@ -50,11 +53,13 @@ retired_none reaches seats i s run =
     }
 
 -- some, and then more
-pub retired_then : (reaches : List Reach) (seats : List Seat) (i : ℕ) (s : Shared) (b c : Both) → i < length seats → HasRetired reaches seats i s b → HasRetired reaches (set seats i b.seat) i b.shared c → HasRetired reaches seats i s c
+pub retired_then : (reaches : List Reach) (seats : List Seat) (i : ℕ) (s : Shared) (b c : Both) → i < length seats → HasRetired reaches seats i s b
+    → HasRetired reaches (set seats i b.seat) i b.shared c → HasRetired reaches seats i s c
 retired_then reaches seats i s b c lt one two =
     record {
       running = subst (λ xs. IsRunning reaches xs c.shared) (set-set seats i b.seat c.seat) two.running;
-      own = λ n j within. ap (λ xs. own_state reaches xs c.shared n j) (sym (set-set seats i b.seat c.seat)) ∙ two.own n j (omega (arith, length-set seats i b.seat)) ∙ one.own n j within;
+      own = λ n j within. ap (λ xs. own_state reaches xs c.shared n j) (sym (set-set seats i b.seat c.seat))
+          ∙ two.own n j (omega (arith, length-set seats i b.seat)) ∙ one.own n j within;
       flights = λ d. two.flights d ∙ one.flights d;
       registers = two.registers ∙ ap (λ (x : Seat). x.registers) there ∙ one.registers;
       number = two.number ∙ ap (λ (x : Seat). x.p) there ∙ one.number;
@@ -79,7 +84,8 @@ some_blank (Some f) is = refl
 
 -- ---- one stint
 
-module _ (reaches : List Reach) (seats : List Seat) (s : Shared) (i : ℕ) (run : IsRunning reaches seats s) (lt : i < length seats) (dead : is_live (seat_at seats i).registers.state ≡ false) (n : ℕ) (within : n < length (seat_at seats i).stints) where
+module _ (reaches : List Reach) (seats : List Seat) (s : Shared) (i : ℕ) (run : IsRunning reaches seats s) (lt : i < length seats)
+    (dead : is_live (seat_at seats i).registers.state ≡ false) (n : ℕ) (within : n < length (seat_at seats i).stints) where
   abbrev q : Part
   q = part_at reaches seats i
 
@@ -104,7 +110,12 @@ module _ (reaches : List Reach) (seats : List Seat) (s : Shared) (i : ℕ) (run 
       (and_from (eqb x.device x.device) (is_lent x.loan) (eq-eqb x.device x.device refl) lent)
 
   its_is : is_lent x.loan ≡ true → can_leave spot ≡ true → IsIts q s x.device
-  its_is lent can = record { pooled = pooled; lent = lends_it lent; idle = none_there spot.flight (and_parts (is_some spot.fixture) (is_none spot.flight) can).1 }
+  its_is lent can = record {
+    pooled = pooled;
+    lent = lends_it lent;
+    idle =
+        none_there spot.flight (and_parts (is_some spot.fixture) (is_none spot.flight) can).1;
+  }
 
   -- without a transfer of the program's it leaves its place
   leaves_it : ((d : ℕ) (h : Held) → (spot_at s.spots d).flight ≡ Some h → h.p ≢ (seat_at seats i).p) → is_lent x.loan ≡ true → can_leave spot ≡ true
@@ -145,7 +156,14 @@ module _ (reaches : List Reach) (seats : List Seat) (s : Shared) (i : ℕ) (run 
   same_parts j =
       ⊎_elim
       (λ (same : j ≡ i).
-      record { p = ap (λ k. (seat_at (set seats i seat) k).p) same ∙ ap (λ (y : Seat). y.p) there ∙ sym (ap (λ k. (seat_at seats k).p) same); base = refl; size = refl; devices = refl; pool = refl })
+      record {
+        p = ap (λ k. (seat_at (set seats i seat) k).p) same ∙ ap (λ (y : Seat). y.p) there ∙ sym (ap (λ k. (seat_at seats k).p) same);
+        base =
+            refl;
+        size = refl;
+        devices = refl;
+        pool = refl;
+      })
       (λ (ne : j ≢ i). record { p = ap (λ (y : Seat). y.p) (elsewhere j ne); base = refl; size = refl; devices = refl; pool = refl })
       (cases_eq j i)
 
@@ -181,7 +199,8 @@ module _ (reaches : List Reach) (seats : List Seat) (s : Shared) (i : ℕ) (run 
         (λ (is : e ≡ x.device).
         ⊎_elim
         (λ (same : j ≡ i).
-        cc (sym has_there ∙ (ap (has_device (part_at reaches (set seats i seat) i)) (sym is) ∙ (ap (λ k. has_device (part_at reaches (set seats i seat) k) e) (sym same) ∙ has))))
+        cc (sym has_there ∙ (ap (has_device (part_at reaches (set seats i seat) i)) (sym is)
+        ∙ (ap (λ k. has_device (part_at reaches (set seats i seat) k) e) (sym same) ∙ has))))
         (λ (ne : j ≢ i). sym (ap (λ (y : Seat). has_device (part_in y (reach_at reaches j)) e) (elsewhere j ne)) ∙ has)
         (cases_eq j i))
         (λ (other : e ≢ x.device). sym (has_else j e other) ∙ has)
@@ -200,31 +219,37 @@ module _ (reaches : List Reach) (seats : List Seat) (s : Shared) (i : ℕ) (run 
         (gone_other_kept q s x.device run.sound (run.kept i lt) its (part_at reaches seats j) (not_its j small ne) (run.kept j small)))
         (cases_eq j i)
 
-    each_active : (j : ℕ) → j < length (set seats i seat) → is_live (seat_at (set seats i seat) j).registers.state ≡ true → IsActive (part_at reaches (set seats i seat) j)
+    each_active : (j : ℕ) → j < length (set seats i seat) → is_live (seat_at (set seats i seat) j).registers.state ≡ true
+        → IsActive (part_at reaches (set seats i seat) j)
     each_active j lt' live =
         ⊎_elim
-        (λ (same : j ≡ i). cc (sym dead ∙ (sym (ap (λ (y : Seat). is_live y.registers.state) there) ∙ (ap (λ k. is_live (seat_at (set seats i seat) k).registers.state) (sym same) ∙ live))))
+        (λ (same : j ≡ i). cc (sym dead ∙ (sym (ap (λ (y : Seat). is_live y.registers.state) there)
+        ∙ (ap (λ k. is_live (seat_at (set seats i seat) k).registers.state) (sym same) ∙ live))))
         (λ (ne : j ≢ i).
         let small : j < length seats = omega (arith, length-set seats i seat) in
         subst (λ (y : Seat). IsActive (part_in y (reach_at reaches j))) (sym (elsewhere j ne))
         (run.active j small (ap (λ (y : Seat). is_live y.registers.state) (sym (elsewhere j ne)) ∙ live)))
         (cases_eq j i)
 
-    fresh_then : (j e : ℕ) → j < length seats → in_pool (part_at reaches seats j) e ≡ true → IsUnlent (set seats i seat) e → (spot_at (emptied x.device s).spots e).progress ≡ new_progress
+    fresh_then : (j e : ℕ) → j < length seats → in_pool (part_at reaches seats j) e ≡ true → IsUnlent (set seats i seat) e
+        → (spot_at (emptied x.device s).spots e).progress ≡ new_progress
     fresh_then j e lt' is_pooled unlent =
         ⊎_elim
         (λ (is : e ≡ x.device).
-        ap (λ k. (spot_at (emptied x.device s).spots k).progress) is ∙ ap (λ (y : Spot). y.progress) (get_or-set_same s.spots x.device (blank_spot spot) no_spot inside))
+        ap (λ k. (spot_at (emptied x.device s).spots k).progress) is
+        ∙ ap (λ (y : Spot). y.progress) (get_or-set_same s.spots x.device (blank_spot spot) no_spot inside))
         (λ (other : e ≢ x.device).
         ap (λ (y : Spot). y.progress) (get_or-set_other s.spots x.device e (blank_spot spot) no_spot other)
         ∙ run.fresh j e lt' is_pooled (λ k within. sym (lends_else k e other) ∙ unlent k (omega (arith, length-set seats i seat))))
         (cases_eq e x.device)
 
-    not_lost : (j e : ℕ) → j < length seats → is_some (spot_at (emptied x.device s).spots e).flight ≡ true → has_device (part_at reaches seats j) e ≡ true → has_device (part_at reaches (set seats i seat) j) e ≡ true
+    not_lost : (j e : ℕ) → j < length seats → is_some (spot_at (emptied x.device s).spots e).flight ≡ true → has_device (part_at reaches seats j) e ≡ true
+        → has_device (part_at reaches (set seats i seat) j) e ≡ true
     not_lost j e lt' flies has =
         ⊎_elim
         (λ (is : e ≡ x.device).
-        cc (sym (ap (λ k. is_some (spot_at (emptied x.device s).spots k).flight) is ∙ ap (λ (y : Spot). is_some y.flight) (get_or-set_same s.spots x.device (blank_spot spot) no_spot inside)) ∙ flies))
+        cc (sym (ap (λ k. is_some (spot_at (emptied x.device s).spots k).flight) is
+        ∙ ap (λ (y : Spot). is_some y.flight) (get_or-set_same s.spots x.device (blank_spot spot) no_spot inside)) ∙ flies))
         (λ (other : e ≢ x.device). has_else j e other ∙ has)
         (cases_eq e x.device)
 
@@ -235,8 +260,10 @@ module _ (reaches : List Reach) (seats : List Seat) (s : Shared) (i : ℕ) (run 
         (λ j e lt' has. inl (has_before j e has))
         fresh_then
         not_lost
-        (at_spot s.spots x.device (blank_spot spot) inside (λ e z. is_some (spot_at s.spots e).fixture ≡ true → is_some z.fixture ≡ true) (some_blank spot.fixture) (λ e ne some. some))
-        (λ e h. at_spot s.spots x.device (blank_spot spot) inside (λ k z. z.flight ≡ Some h → IsHeld reaches seats k z h) (λ flies. cc flies) (λ k ne. run.flights k h) e)
+        (at_spot s.spots x.device (blank_spot spot) inside (λ e z. is_some (spot_at s.spots e).fixture ≡ true → is_some z.fixture ≡ true)
+        (some_blank spot.fixture) (λ e ne some. some))
+        (λ e h. at_spot s.spots x.device (blank_spot spot) inside (λ k z. z.flight ≡ Some h → IsHeld reaches seats k z h) (λ flies. cc flies)
+        (λ k ne. run.flights k h) e)
         each_kept each_active
 
     one_own : (m j : ℕ) → j < length seats → own_state reaches (set seats i seat) (emptied x.device s) m j ≡ own_state reaches seats s m j
@@ -295,7 +322,8 @@ module _ (reaches : List Reach) (seats : List Seat) (s : Shared) (i : ℕ) (run 
 
 -- ---- all of them
 
-module _ (reaches : List Reach) (seats : List Seat) (s : Shared) (i : ℕ) (run : IsRunning reaches seats s) (lt : i < length seats) (dead : is_live (seat_at seats i).registers.state ≡ false) where
+module _ (reaches : List Reach) (seats : List Seat) (s : Shared) (i : ℕ) (run : IsRunning reaches seats s) (lt : i < length seats)
+    (dead : is_live (seat_at seats i).registers.state ≡ false) where
   abbrev first : Both
   first = both_of (seat_at seats i) s
 
@@ -322,7 +350,8 @@ module _ (reaches : List Reach) (seats : List Seat) (s : Shared) (i : ℕ) (run 
         (subst (λ (y : Seat). HasRetired reaches seats_then i b.shared (retired_at n (both_of y b.shared))) at_then
         (one_retired reaches seats_then b.shared i past.running lt_then dead_then n within_then))
 
-    next_unlent : ((d : ℕ) (h : Held) → (spot_at s.spots d).flight ≡ Some h → h.p ≢ (seat_at seats i).p) → is_lent (kept_from (keeping_at b.seat n) (spot_at b.shared.spots (keeping_at b.seat n).device)).loan ≡ false
+    next_unlent : ((d : ℕ) (h : Held) → (spot_at s.spots d).flight ≡ Some h → h.p ≢ (seat_at seats i).p)
+        → is_lent (kept_from (keeping_at b.seat n) (spot_at b.shared.spots (keeping_at b.seat n).device)).loan ≡ false
     next_unlent alone =
         subst (λ (y : Seat). is_lent (kept_from (keeping_at y n) (spot_at b.shared.spots (keeping_at y n).device)).loan ≡ false) at_then
         (one_unlent reaches seats_then b.shared i past.running lt_then dead_then n within_then
@@ -332,7 +361,8 @@ module _ (reaches : List Reach) (seats : List Seat) (s : Shared) (i : ℕ) (run 
   many_retired zero le = retired_none reaches seats i s run
   many_retired (suc n) le = next_retired n (retired n first) (many_retired n (omega arith)) (omega arith)
 
-  unlent : ((d : ℕ) (h : Held) → (spot_at s.spots d).flight ≡ Some h → h.p ≢ (seat_at seats i).p) → (n : ℕ) → n ≤ length (seat_at seats i).stints → (k : ℕ) → k < n → is_lent (keeping_at (retired n first).seat k).loan ≡ false
+  unlent : ((d : ℕ) (h : Held) → (spot_at s.spots d).flight ≡ Some h → h.p ≢ (seat_at seats i).p) → (n : ℕ) → n ≤ length (seat_at seats i).stints → (k : ℕ)
+      → k < n → is_lent (keeping_at (retired n first).seat k).loan ≡ false
   unlent alone zero le k low = absurd (omega arith)
   unlent alone (suc n) le k low =
       let past = many_retired n (omega arith) in
@@ -381,13 +411,15 @@ module _ (reaches : List Reach) (seats : List Seat) (s : Shared) (i : ℕ) (run 
           borrower_none left d
           (λ j within. ⊎_elim
           (λ (same : j ≡ i). ap (λ k. lends (seat_at left k).stints d) same ∙ ap (λ (y : Seat). lends y.stints d) at_left ∙ none)
-          (λ (ne : j ≢ i). ap (λ (y : Seat). lends y.stints d) (not_at j ne) ∙ others_none reaches seats s run i lt d had j (omega (arith, length-set seats i last.seat)) ne)
+          (λ (ne : j ≢ i). ap (λ (y : Seat). lends y.stints d) (not_at j ne)
+          ∙ others_none reaches seats s run i lt d had j (omega (arith, length-set seats i last.seat)) ne)
           (cases_eq j i))
           ∙ sym (ap (λ b. cond b None (borrower seats d)) (taker_is reaches seats s run i lt d ∙ had))
       of false had =
           borrower_same seats left d (length-set seats i last.seat)
           (λ j within. ⊎_elim
-          (λ (same : j ≡ i). ap (λ k. lends (seat_at left k).stints d) same ∙ ap (λ (y : Seat). lends y.stints d) at_left ∙ none ∙ sym (ap (λ k. lends (seat_at seats k).stints d) same ∙ had))
+          (λ (same : j ≡ i). ap (λ k. lends (seat_at left k).stints d) same ∙ ap (λ (y : Seat). lends y.stints d) at_left ∙ none
+          ∙ sym (ap (λ k. lends (seat_at seats k).stints d) same ∙ had))
           (λ (ne : j ≢ i). ap (λ (y : Seat). lends y.stints d) (not_at j ne))
           (cases_eq j i))
           (λ j. ⊎_elim
@@ -400,25 +432,29 @@ module _ (reaches : List Reach) (seats : List Seat) (s : Shared) (i : ℕ) (run 
   settled_is = ap (λ b. cond b first last) dead
 
   -- a program without a transfer gives up all that it has from the pool
-  pub settled_holder : ((d : ℕ) (h : Held) → (spot_at s.spots d).flight ≡ Some h → h.p ≢ (seat_at seats i).p) → (d : ℕ) → borrower (set seats i (settled first).seat) d ≡ holder_over (seat_at seats i).p (borrower seats d)
+  pub settled_holder : ((d : ℕ) (h : Held) → (spot_at s.spots d).flight ≡ Some h → h.p ≢ (seat_at seats i).p) → (d : ℕ)
+      → borrower (set seats i (settled first).seat) d ≡ holder_over (seat_at seats i).p (borrower seats d)
   settled_holder alone d = ap (λ (b : Both). borrower (set seats i b.seat) d) settled_is ∙ left_holder d (none_held alone d)
 
   pub settled_over : HasRetired reaches seats i s (settled first)
   settled_over = subst (HasRetired reaches seats i s) (sym settled_is) all_retired
 
 -- a program, whether it is over or not
-pub settled_all : (reaches : List Reach) (seats : List Seat) (s : Shared) (i : ℕ) → IsRunning reaches seats s → i < length seats → HasRetired reaches seats i s (settled (both_of (seat_at seats i) s))
+pub settled_all : (reaches : List Reach) (seats : List Seat) (s : Shared) (i : ℕ) → IsRunning reaches seats s → i < length seats
+    → HasRetired reaches seats i s (settled (both_of (seat_at seats i) s))
 settled_all reaches seats s i run lt =
     ⊎_elim
     (λ (live : is_live (seat_at seats i).registers.state ≡ true).
-    subst (HasRetired reaches seats i s) (sym (ap (λ b. cond b (both_of (seat_at seats i) s) (retired (length (seat_at seats i).stints) (both_of (seat_at seats i) s))) live))
+    subst (HasRetired reaches seats i s) (sym
+    (ap (λ b. cond b (both_of (seat_at seats i) s) (retired (length (seat_at seats i).stints) (both_of (seat_at seats i) s))) live))
     (retired_none reaches seats i s run))
     (λ (dead : is_live (seat_at seats i).registers.state ≡ false). settled_over reaches seats s i run lt dead)
     (cases_Bool (is_live (seat_at seats i).registers.state))
 
 -- ---- transfers that would be pending
 
-none_pending : (v : View) (p n : ℕ) (xs : List Spot) → ((k : ℕ) → k < length xs → v.is_busy (n + k) ≡ is_some (spot_at xs k).flight) → first_pending v (map Device (own_from p n xs)) ≡ None → (k : ℕ) → k < length xs → is_of p (spot_at xs k).flight ≡ false
+none_pending : (v : View) (p n : ℕ) (xs : List Spot) → ((k : ℕ) → k < length xs → v.is_busy (n + k) ≡ is_some (spot_at xs k).flight)
+    → first_pending v (map Device (own_from p n xs)) ≡ None → (k : ℕ) → k < length xs → is_of p (spot_at xs k).flight ≡ false
 none_pending v p n [] busy free k lt = absurd (omega arith)
 none_pending v p n (x ∷ xs) busy free k lt =
     of (is_of p x.flight) refl
@@ -428,20 +464,24 @@ none_pending v p n (x ∷ xs) busy free k lt =
     some_of None is = cc
     some_of (Some h) is = refl
 
-    of : (b : Bool) → is_of p x.flight ≡ b → (first_pending v (map Device (own_from p (n + 1) xs)) ≡ None → (j : ℕ) → j < length xs → is_of p (spot_at xs j).flight ≡ false) → (j : ℕ) → j < length (x ∷ xs) → is_of p (spot_at (x ∷ xs) j).flight ≡ false
+    of : (b : Bool) → is_of p x.flight ≡ b → (first_pending v (map Device (own_from p (n + 1) xs)) ≡ None → (j : ℕ) → j < length xs
+        → is_of p (spot_at xs j).flight ≡ false) → (j : ℕ) → j < length (x ∷ xs) → is_of p (spot_at (x ∷ xs) j).flight ≡ false
     of true is later j within =
         let e : n ≡ n + 0 = omega arith in
         let is_busy : v.is_busy n ≡ true = ap v.is_busy e ∙ busy 0 (omega arith) ∙ some_of x.flight is in
         cc (sym (ap (λ b. first_pending v (map Device (cond b (n ∷ own_from p (n + 1) xs) (own_from p (n + 1) xs)))) is
         ∙ ap (λ b. cond b (Some (Device n)) (first_pending v (map Device (own_from p (n + 1) xs)))) is_busy) ∙ free)
     of false other later zero within = other
-    of false other later (suc j) within = later (sym (ap (λ b. first_pending v (map Device (cond b (n ∷ own_from p (n + 1) xs) (own_from p (n + 1) xs)))) other) ∙ free) j (omega arith)
+    of false other later (suc j) within = later
+        (sym (ap (λ b. first_pending v (map Device (cond b (n ∷ own_from p (n + 1) xs) (own_from p (n + 1) xs)))) other) ∙ free) j (omega arith)
 
 -- a program whose transfers aren't pending has none
-pub alone_of : (q : Part) (t : Setting) (s : Shared) → first_pending (view q t s) (map Device (own_from q.p 0 s.spots)) ≡ None → (d : ℕ) (h : Held) → (spot_at s.spots d).flight ≡ Some h → h.p ≢ q.p
+pub alone_of : (q : Part) (t : Setting) (s : Shared) → first_pending (view q t s) (map Device (own_from q.p 0 s.spots)) ≡ None → (d : ℕ) (h : Held)
+    → (spot_at s.spots d).flight ≡ Some h → h.p ≢ q.p
 alone_of q t s free d h flies same =
     ⊎_elim
     (λ (lt : d < length s.spots).
-    cc (sym (eq-eqb h.p q.p same) ∙ (ap (is_of q.p) (sym flies) ∙ none_pending (view q t s) q.p 0 s.spots (λ k within. let e : 0 + k ≡ k = omega arith in ap (is_busy_in s) e) free d lt)))
+    cc (sym (eq-eqb h.p q.p same) ∙ (ap (is_of q.p) (sym flies)
+    ∙ none_pending (view q t s) q.p 0 s.spots (λ k within. let e : 0 + k ≡ k = omega arith in ap (is_busy_in s) e) free d lt)))
     (λ (past : length s.spots ≤ d). cc (sym (ap (λ (x : Spot). x.flight) (get_or_past s.spots d no_spot past)) ∙ flies))
     (cases_lt d (length s.spots))

@@ -100,7 +100,9 @@ program_itself t =
     }
 
 -- an order that was obeyed once memory was taken, where nothing was noted before
-pub tried_by : (old mid new : Turn) (r left : Registers) (ended : Step) → old.note ≡ Quiet → Stays old mid → ended ≡ (outcome (shown old) r).step → left ≡ (outcome (shown old) r).registers → Acts mid (outcome (shown old) r).act new → HasTried (reach_in old) (held_in old) old.moment (seat_in old r) (shared old) (seat_in new left) (shared new) ended new.note
+pub tried_by : (old mid new : Turn) (r left : Registers) (ended : Step) → old.note ≡ Quiet → Stays old mid → ended ≡ (outcome (shown old) r).step
+    → left ≡ (outcome (shown old) r).registers → Acts mid (outcome (shown old) r).act new → HasTried (reach_in old) (held_in old) old.moment (seat_in old r)
+    (shared old) (seat_in new left) (shared new) ended new.note
 tried_by old mid new r left ended quiet stays step registers acted =
     let o : Outcome = outcome (shown old) r in
     let done : Acts old o.act new = acts_from old mid new o.act stays acted in
@@ -117,14 +119,16 @@ abbrev pub share : Cells → List Spot → Shared
 share c s = record { cells = c; spots = s }
 
 -- what holds of a turn over what was lent, and of the turn that it became, holds of what was lent and of what came back
-pub lent_over : (P : Reach → Moment → Seat → Shared → Seat → Shared → Type 0) (r r' : Reach) (m m' : Moment) (a a' : Seat) (s s' : Shared) (b b' : Seat) (l l' : Shared) → r ≡ r' → m ≡ m' → a ≡ a' → s ≡ s' → b' ≡ b → l' ≡ l → P r m a s b l → P r' m' a' s' b' l'
+pub lent_over : (P : Reach → Moment → Seat → Shared → Seat → Shared → Type 0) (r r' : Reach) (m m' : Moment) (a a' : Seat) (s s' : Shared) (b b' : Seat)
+    (l l' : Shared) → r ≡ r' → m ≡ m' → a ≡ a' → s ≡ s' → b' ≡ b → l' ≡ l → P r m a s b l → P r' m' a' s' b' l'
 lent_over P r r' m m' a a' s s' b b' l l' e f g h i j p =
     subst (λ x. P r' m' a' s' b' x) (sym j)
     (subst (λ x. P r' m' a' s' x l) (sym i)
     (subst (λ x. P r' m' a' x b l) h (subst (λ x. P r' m' x s b l) g (subst (λ x. P r' x a s b l) f (subst (λ x. P x m a s b l) e p)))))
 
 -- the fields of a program that were lent are as the turn leaves them
-pub seat_back : (t : Turn) (p : ℕ) (r : Registers) (claimed : List Bool) (spooled : List Spooled) (stints : List Stint) → t.p ≡ p → claimed ≡ t.claimed.now → spooled ≡ t.spooled.now.items → stints ≡ t.stints.now.items → seat p r claimed spooled (map keeping_of stints) ≡ seat_in t r
+pub seat_back : (t : Turn) (p : ℕ) (r : Registers) (claimed : List Bool) (spooled : List Spooled) (stints : List Stint) → t.p ≡ p → claimed ≡ t.claimed.now
+    → spooled ≡ t.spooled.now.items → stints ≡ t.stints.now.items → seat p r claimed spooled (map keeping_of stints) ≡ seat_in t r
 seat_back t p r claimed spooled stints e f g h =
     ap₂ (λ k x. seat k r x spooled (map keeping_of stints)) (sym e) f ∙ ap₂ (λ x y. seat t.p r t.claimed.now x (map keeping_of y)) g h
 

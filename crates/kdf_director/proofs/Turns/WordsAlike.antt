@@ -6,7 +6,8 @@ use Rattle.kdf_processor.specs.declared.registers.Registers.{Registers}
 use Rattle.kdf_processor.specs.declared.step.Need.{Need}
 use Rattle.kdf_processor.specs.declared.step.Need.TheVariants.{Group}
 use Rattle.kdf_processor.specs.Ahead.{act_word, word_asked}
-use Rattle.kdf_processor.specs.Effect.{Effect, Failing, Ending, Changing, Fetching, Keeping, Testing, Starting, Asking, Claiming, Returning, Spooling, IsBusy, IsOut, Time, FreeOf, OfService}
+use Rattle.kdf_processor.specs.Effect.{Effect, Failing, Ending, Changing, Fetching, Keeping, Testing, Starting, Asking, Claiming, Returning, Spooling, IsBusy}
+use Rattle.kdf_processor.specs.Effect.{IsOut, Time, FreeOf, OfService}
 use Rattle.kdf_processor.specs.Needs.{count_at, effect_at, effect_needs, fetch_needs, group_of, needs_at, syllable_needs}
 use Rattle.kdf_processor.specs.Outcome.{done, held_or, outcome}
 use Rattle.kdf_processor.specs.Table.{on}

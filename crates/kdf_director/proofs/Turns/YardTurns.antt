@@ -1,7 +1,8 @@
 -- A yard as its fields have it: one of its programs, its turn, and what of that is seen.
 use Rattle.std.specs.Prelude.{find, is_some, not, Result}
 use Rattle.std.specs.List.{range_with_len}
-use Rattle.std.proofs.Common.{◌≡◌, ℕ, ◌+◌, ◌-◌, ◌*◌, ◌%◌, ◌<◌, ◌≤◌, ◌&&◌, eqb, Bool, true, false, List, [], length, get_or, map, set, Option, Some, None, refl, sym, ap, ap₂, ◌∙◌, subst, arith}
+use Rattle.std.proofs.Common.{◌≡◌, ℕ, ◌+◌, ◌-◌, ◌*◌, ◌%◌, ◌<◌, ◌≤◌, ◌&&◌, eqb, Bool, true, false, List, [], length, get_or, map, set, Option, Some, None, refl}
+use Rattle.std.proofs.Common.{sym, ap, ap₂, ◌∙◌, subst, arith}
 use Rattle.std.proofs.Math.Seq.{map-set_same}
 use Rattle.std.proofs.lemmas.List.{get_or-map, get_or-set_same, length-map, length-set, map-set, set-get_or}
 use Rattle.kdf_journal.specs.declared.entry.Entry.{Entry}
@@ -51,12 +52,14 @@ abbrev no_reach : Reach
 no_reach = record { base = 0; size = 0; devices = []; pool = []; served = false }
 
 -- whether a program is held up still, where the same devices of its pool are taken
-stopped_alike : (q : Part) (r : Reach) (s : Shared) (x y : ℕ → Bool) → r.pool ≡ q.pool → ((d : ℕ) → in_pool q d ≡ true → x d ≡ y d) → (hold : Option Need) → is_stopped r x s hold ≡ is_stopped r y s hold
+stopped_alike : (q : Part) (r : Reach) (s : Shared) (x y : ℕ → Bool) → r.pool ≡ q.pool → ((d : ℕ) → in_pool q d ≡ true → x d ≡ y d) → (hold : Option Need)
+    → is_stopped r x s hold ≡ is_stopped r y s hold
 stopped_alike q r s x y pool same None = refl
 stopped_alike q r s x y pool same (Some (Group g)) = refl
 stopped_alike q r s x y pool same (Some (Device d)) = refl
 stopped_alike q r s x y pool same (Some (Pool kind)) =
-    ap (λ ks. is_pool_taken ks x kind) pool ∙ ap (λ (o : Option ℕ). not (is_some o)) (free_alike q x y same kind) ∙ ap (λ ks. is_pool_taken ks y kind) (sym pool)
+    ap (λ ks. is_pool_taken ks x kind) pool ∙ ap (λ (o : Option ℕ). not (is_some o)) (free_alike q x y same kind)
+    ∙ ap (λ ks. is_pool_taken ks y kind) (sym pool)
 
 module _ (m : Inside) (yard : IsYard m.slots.items m.windows m.store m.programs.items m.places.items) where
   abbrev pub rs : List Reach
@@ -72,7 +75,8 @@ module _ (m : Inside) (yard : IsYard m.slots.items m.windows m.store m.programs.
   sixteen = let spots = yard.running.sound.spots in omega (arith, limit_is, length-map m.places.items spot_of)
 
   -- it is one with other programs, if they run over what they share
-  pub yard_then : (store : Cells) (programs : List Program) (places : List Place) → length programs ≡ length m.programs.items → AreDry places → Runs (standing m.slots.items m.windows store programs places)
+  pub yard_then : (store : Cells) (programs : List Program) (places : List Place) → length programs ≡ length m.programs.items → AreDry places
+      → Runs (standing m.slots.items m.windows store programs places)
       → IsYard m.slots.items m.windows store programs places
   yard_then store programs places many dry runs =
       record { placed = yard.placed; many = yard.many ∙ sym many; dry = dry; running = runs }
@@ -141,11 +145,13 @@ module _ (m : Inside) (yard : IsYard m.slots.items m.windows m.store m.programs.
         goes_there J lent =
             ap₂ (λ x r. goes x r (is_held J) s program.hold) seat reach
             ∙ ap (λ b. is_live (seat_at ps i).registers.state && not b)
-            (stopped_alike (part_at rs ps i) (reach_at rs i) s (is_held J) (is_lent_by ps) refl (λ d pooled. ap is_some (sym (subst (λ (x : Standing). AreLentIn x J) (sym is) lent i d inside pooled))) program.hold)
+            (stopped_alike (part_at rs ps i) (reach_at rs i) s (is_held J) (is_lent_by ps) refl
+            (λ d pooled. ap is_some (sym (subst (λ (x : Standing). AreLentIn x J) (sym is) lent i d inside pooled))) program.hold)
             ∙ ap (goes (seat_at ps i) (reach_at rs i) (is_lent_by ps) s) (sym held)
             ∙ ap (λ (x : Standing). goes_in x i) is
 
-        pub asks : (answers : ℕ → ℕ → Type 0) (heard : Option ℕ) → HasAsked answers (word_over (seat_of program) (reach_of m.windows slot) s) heard → HasAsked answers (word_in y i) heard
+        pub asks : (answers : ℕ → ℕ → Type 0) (heard : Option ℕ) → HasAsked answers (word_over (seat_of program) (reach_of m.windows slot) s) heard
+            → HasAsked answers (word_in y i) heard
         asks answers heard asked =
             subst (λ (x : Standing). HasAsked answers (word_in x i) heard) is
             (at_place (λ r x. HasAsked answers (word_over x r s) heard) asked)
@@ -165,14 +171,17 @@ module _ (m : Inside) (yard : IsYard m.slots.items m.windows m.store m.programs.
           holds_then same = map-set_same (λ (x : Program). x.hold) m.programs.items i new program (same ∙ ap (λ (x : Program). x.hold) program_is)
 
           -- that is as the one before, over the same store and places
-          pub unheard : seat_of new ≡ seat_of program → new.hold ≡ program.hold → (store : Cells) → store ≡ m.store → (places : List Place) → places ≡ m.places.items
+          pub unheard : seat_of new ≡ seat_of program → new.hold ≡ program.hold → (store : Cells) → store ≡ m.store → (places : List Place)
+              → places ≡ m.places.items
               → standing m.slots.items m.windows store programs places ≡ stands m
           unheard same hold store store_is places places_is =
-              ap₂ (λ xs hs. record { slots = (stands m).slots; reaches = rs; seats = xs; holds = hs; shared = shared_in store places }) (seats_then same) (holds_then hold)
+              ap₂ (λ xs hs. record { slots = (stands m).slots; reaches = rs; seats = xs; holds = hs; shared = shared_in store places }) (seats_then same)
+              (holds_then hold)
               ∙ ap₂ (λ a v. record { slots = (stands m).slots; reaches = rs; seats = ps; holds = (stands m).holds; shared = shared_in a v }) store_is places_is
 
           -- that took its turn
-          module _ (live : (registers_in y i).state ≡ life.Live) (J : List Entry) (lent : AreLentIn y J) (t : Moment) (n : ℕ) (place : Option ℕ) (store : Cells) (places : List Place) where
+          module _ (live : (registers_in y i).state ≡ life.Live) (J : List Entry) (lent : AreLentIn y J) (t : Moment) (n : ℕ) (place : Option ℕ)
+              (store : Cells) (places : List Place) where
             abbrev z : Standing
             z = standing m.slots.items m.windows store programs places
 
@@ -182,28 +191,36 @@ module _ (m : Inside) (yard : IsYard m.slots.items m.windows m.store m.programs.
             lent_there : AreLentIn (stands m) J
             lent_there = subst (λ (x : Standing). AreLentIn x J) (sym is) lent
 
-            turned_then : (ended : Step) (noted : Note) → HasBatch of_seat place (HasRun (reach_of m.windows slot) (held_by J) t) n (seat_of program) s (seat_of new) (shared_in store places) ended noted → HasTurnedIn t i n place (stands m) z ended noted
+            turned_then : (ended : Step) (noted : Note) → HasBatch of_seat place (HasRun (reach_of m.windows slot) (held_by J) t) n (seat_of program) s
+                (seat_of new) (shared_in store places) ended noted → HasTurnedIn t i n place (stands m) z ended noted
             turned_then ended noted ran =
-                subst (λ xs. HasBatch (of_seats i) place (HasTurnedOn rs t i) n ps s xs (shared_in store places) ended noted) (sym (map-set seat_of m.programs.items i new))
+                subst (λ xs. HasBatch (of_seats i) place (HasTurnedOn rs t i) n ps s xs (shared_in store places) ended noted)
+                (sym (map-set seat_of m.programs.items i new))
                 (turns_by rs (held_by J) t i place n ps s (seat_of new) (shared_in store places) ended noted yard.running lent_there inside on
                 (at_place (λ r x. HasBatch of_seat place (HasRun r (held_by J) t) n x s (seat_of new) (shared_in store places) ended noted) ran))
 
-            pub turned_in : (ended : Step) (noted : Note) → HasBatch of_seat place (HasRun (reach_of m.windows slot) (held_by J) t) n (seat_of program) s (seat_of new) (shared_in store places) ended noted → HasTurnedIn t i n place y z ended noted
+            pub turned_in : (ended : Step) (noted : Note) → HasBatch of_seat place (HasRun (reach_of m.windows slot) (held_by J) t) n (seat_of program) s
+                (seat_of new) (shared_in store places) ended noted → HasTurnedIn t i n place y z ended noted
             turned_in ended noted ran = subst (λ (x : Standing). HasTurnedIn t i n place x z ended noted) is (turned_then ended noted ran)
 
-            pub runs_then : (ended : Step) (noted : Note) → HasBatch of_seat place (HasRun (reach_of m.windows slot) (held_by J) t) n (seat_of program) s (seat_of new) (shared_in store places) ended noted → Runs z
+            pub runs_then : (ended : Step) (noted : Note) → HasBatch of_seat place (HasRun (reach_of m.windows slot) (held_by J) t) n (seat_of program) s
+                (seat_of new) (shared_in store places) ended noted → Runs z
             runs_then ended noted ran = (turned_then ended noted ran).last.1
 
-            still_then : AreQuiet (Passes of_seat place (HasRun (reach_of m.windows slot) (held_by J) t)) n (seat_of program) s (seat_of new) (shared_in store places) → HasTurnedQuietly t i n place (stands m) z
+            still_then : AreQuiet (Passes of_seat place (HasRun (reach_of m.windows slot) (held_by J) t)) n (seat_of program) s (seat_of new)
+                (shared_in store places) → HasTurnedQuietly t i n place (stands m) z
             still_then ran =
-                subst (λ xs. AreQuiet (Passes (of_seats i) place (HasTurnedOn rs t i)) n ps s xs (shared_in store places)) (sym (map-set seat_of m.programs.items i new))
+                subst (λ xs. AreQuiet (Passes (of_seats i) place (HasTurnedOn rs t i)) n ps s xs (shared_in store places))
+                (sym (map-set seat_of m.programs.items i new))
                 (turns_on rs (held_by J) t i place n ps s (seat_of new) (shared_in store places) yard.running lent_there inside on
                 (at_place (λ r x. AreQuiet (Passes of_seat place (HasRun r (held_by J) t)) n x s (seat_of new) (shared_in store places)) ran)).0
 
-            pub still_in : AreQuiet (Passes of_seat place (HasRun (reach_of m.windows slot) (held_by J) t)) n (seat_of program) s (seat_of new) (shared_in store places) → HasTurnedQuietly t i n place y z
+            pub still_in : AreQuiet (Passes of_seat place (HasRun (reach_of m.windows slot) (held_by J) t)) n (seat_of program) s (seat_of new)
+                (shared_in store places) → HasTurnedQuietly t i n place y z
             still_in ran = subst (λ (x : Standing). HasTurnedQuietly t i n place x z) is (still_then ran)
 
-            pub runs_still : AreQuiet (Passes of_seat place (HasRun (reach_of m.windows slot) (held_by J) t)) n (seat_of program) s (seat_of new) (shared_in store places) → Runs z
+            pub runs_still : AreQuiet (Passes of_seat place (HasRun (reach_of m.windows slot) (held_by J) t)) n (seat_of program) s (seat_of new)
+                (shared_in store places) → Runs z
             runs_still ran = still_running rs t i place n ps s (seats_in programs) (shared_in store places) yard.running (still_then ran)
 
             pub same_yard : new.hold ≡ program.hold → IsSameYard y z
@@ -223,7 +240,8 @@ module _ (m : Inside) (yard : IsYard m.slots.items m.windows m.store m.programs.
 
       pub hold_entered : program.hold ≡ hold_in y i
       hold_entered =
-          ap (λ (x : Program). x.hold) program_is ∙ sym (get_or-map (λ (x : Program). x.hold) m.programs.items i program None lt) ∙ ap (λ (x : Standing). hold_in x i) is
+          ap (λ (x : Program). x.hold) program_is ∙ sym (get_or-map (λ (x : Program). x.hold) m.programs.items i program None lt)
+          ∙ ap (λ (x : Standing). hold_in x i) is
 
       abbrev entered : List Program
       entered = set m.programs.items i new
@@ -259,7 +277,8 @@ module _ (m : Inside) (yard : IsYard m.slots.items m.windows m.store m.programs.
       pub many_entered : length entered ≡ length m.programs.items
       many_entered = length-set m.programs.items i new
 
-      pub entered_in : {E F : Type 0} (J K : List Entry) (n : ℕ) (tried : Result (Step × Note) E) (r : Result (ℕ × Progress) F) → HasEntered J program.p n program.registers.ran program.hold tried K new.hold r
+      pub entered_in : {E F : Type 0} (J K : List Entry) (n : ℕ) (tried : Result (Step × Note) E) (r : Result (ℕ × Progress) F)
+          → HasEntered J program.p n program.registers.ran program.hold tried K new.hold r
           → HasEntered J (number_in y i) n (registers_in y i).ran (hold_in y i) tried K (hold_in e i) r
       entered_in J K n tried r has =
           subst (λ h. HasEntered J (number_in y i) n (registers_in y i).ran (hold_in y i) tried K h r) hold_new
@@ -267,11 +286,13 @@ module _ (m : Inside) (yard : IsYard m.slots.items m.windows m.store m.programs.
           (subst (λ (x : Seat). HasEntered J x.p n x.registers.ran program.hold tried K new.hold r) seat_entered has))
 
 -- the number of a program
-pub number_at : (programs : List Program) (i : ℕ) → i < length programs → (program : Program) → program ≡ get_or programs i program → (seat_at (seats_in programs) i).p ≡ program.p
+pub number_at : (programs : List Program) (i : ℕ) → i < length programs → (program : Program) → program ≡ get_or programs i program
+    → (seat_at (seats_in programs) i).p ≡ program.p
 number_at programs i lt program is = ap (λ (x : Seat). x.p) (get_or-map seat_of programs i program no_seat lt ∙ ap seat_of (sym is))
 
 -- the search for the program in a slot begins at the first of all
-pub place_first : (programs : List Program) (p : ℕ) → place_of (seats_in programs) p ≡ find (λ i. eqb (seat_at (seats_in programs) i).p p) (range_with_len 0 (length programs - 0))
+pub place_first : (programs : List Program) (p : ℕ) → place_of (seats_in programs) p ≡ find (λ i. eqb (seat_at (seats_in programs) i).p p)
+    (range_with_len 0 (length programs - 0))
 unfolding place_of
 place_first programs p =
     let count : length (seats_in programs) ≡ length programs - 0 = omega (arith, length-map programs seat_of) in

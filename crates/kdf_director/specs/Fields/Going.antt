@@ -1,5 +1,6 @@
 -- Which program goes on, by the fields of a machine.
-use Rattle.std.specs.Prelude.{ℕ, ◌+◌, ◌*◌, ◌/◌, ◌<◌, ◌==◌, not, ◌&&◌, Bool, false, List, [], ◌∷◌, length, Option, Some, None, find, if◌then◌else◌, slice_index_or}
+use Rattle.std.specs.Prelude.{ℕ, ◌+◌, ◌*◌, ◌/◌, ◌<◌, ◌==◌, not, ◌&&◌, Bool, false, List, [], ◌∷◌, length, Option, Some, None, find, if◌then◌else◌}
+use Rattle.std.specs.Prelude.{slice_index_or}
 use Rattle.std.specs.List.{list_any, range_with_len}
 use Rattle.kdf_lockout.specs.Groups.{is_out}
 use Rattle.kdf_processor.specs.Lone.{is_live}

@@ -1,5 +1,6 @@
 -- The programs of a machine over what they share: each program's own state, and what holds at each moment.
-use Rattle.std.specs.Prelude.{◌≡◌, ◌≢◌, ℕ, ◌+◌, ◌*◌, ◌%◌, ◌<◌, ◌≤◌, List, [], length, map, true, false, Option, Some, None, is_some, slice_index_or, slice_set, ◌==◌, if◌then◌else◌}
+use Rattle.std.specs.Prelude.{◌≡◌, ◌≢◌, ℕ, ◌+◌, ◌*◌, ◌%◌, ◌<◌, ◌≤◌, List, [], length, map, true, false, Option, Some, None, is_some, slice_index_or, slice_set}
+use Rattle.std.specs.Prelude.{◌==◌, if◌then◌else◌}
 use Rattle.kdf_relocate.specs.declared.window.Window.{Window}
 use Rattle.kdf_transfer.specs.AtOnce.{written}
 use Rattle.kdf_transfer.specs.InFlight.{total_of, ended_progress}

@@ -115,11 +115,15 @@ events-rise t (Clock u ∷ es) rise = let r = subst (CallsRise t) (calls-after (
 events-rise t (Swap p q ∷ es) rise = let r = subst (CallsRise t) (calls-after (Swap p q) es) rise in (r.0, r.1, events-rise t es r.2)
 
 -- the events after those of a journal don't set its clock back
-pub rising-on : (slots : List Slot) (es more : List Event) (J : List Entry) → IsLegal slots J → IsWhole slots (calls_made es) J → IsRising 0 (es ++ more) → IsRising (clock J) more
+pub rising-on : (slots : List Slot) (es more : List Event) (J : List Entry) → IsLegal slots J → IsWhole slots (calls_made es) J → IsRising 0 (es ++ more)
+    → IsRising (clock J) more
 rising-on slots es more J legal whole rises =
     let all : CallsRise 0 (calls_made es ++ calls_made more) = subst (CallsRise 0) (calls_made-append es more) (calls-rise 0 (es ++ more) rises) in
-    let parts : CallsRise 0 ((answered (steps J) ++ whole.left) ++ calls_made more) = subst (λ (cs : List Call). CallsRise 0 (cs ++ calls_made more)) (sym whole.follows.in_order) all in
-    let front : CallsRise 0 (answered (steps J) ++ (whole.left ++ calls_made more)) = subst (CallsRise 0) (append_assoc (answered (steps J)) whole.left (calls_made more)) parts in
+    let parts : CallsRise 0 ((answered (steps J) ++ whole.left) ++ calls_made more) = subst (λ (cs : List Call). CallsRise 0 (cs ++ calls_made more))
+    (sym whole.follows.in_order) all in
+    let front : CallsRise 0 (answered (steps J) ++ (whole.left ++ calls_made more)) =
+    subst (CallsRise 0) (append_assoc (answered (steps J)) whole.left (calls_made more)) parts in
     let on : CallsRise (clock (journal_of (steps J))) (whole.left ++ calls_made more) = rise-answered (steps J) (whole.left ++ calls_made more) front in
-    let own : CallsRise (clock J) (whole.left ++ calls_made more) = subst (λ (K : List Entry). CallsRise (clock K) (whole.left ++ calls_made more)) legal.in_form on in
+    let own : CallsRise (clock J) (whole.left ++ calls_made more) = subst (λ (K : List Entry). CallsRise (clock K) (whole.left ++ calls_made more))
+    legal.in_form on in
     events-rise (clock J) more (rest-rises (clock J) whole.left (calls_made more) own)

@@ -2,7 +2,8 @@
 -- device takes the one that it is answered.
 use Rattle.std.specs.Prelude.{replicate, unwrap_or}
 use Rattle.std.specs.List.{range_with_len}
-use Rattle.std.proofs.Common.{◌≡◌, ◌≢◌, ℕ, zero, suc, ◌<◌, ◌≤◌, Bool, true, false, cond, eqb, ltb, not, ◌&&◌, ◌||◌, List, [], ◌∷◌, length, get_or, set, Option, Some, None, is_some, refl, sym, ap, ◌∙◌, subst, ⊎_elim, arith}
+use Rattle.std.proofs.Common.{◌≡◌, ◌≢◌, ℕ, zero, suc, ◌<◌, ◌≤◌, Bool, true, false, cond, eqb, ltb, not, ◌&&◌, ◌||◌, List, [], ◌∷◌, length, get_or, set, Option}
+use Rattle.std.proofs.Common.{Some, None, is_some, refl, sym, ap, ◌∙◌, subst, ⊎_elim, arith}
 use Rattle.std.proofs.lemmas.Bool.{and_from, and_parts, cases_Bool, cases_eq, cases_lt, eq-eqb, false≢true, ne_eqb, or_parts}
 use Rattle.std.proofs.lemmas.List.{get_or-replicate, get_or-set_other, get_or-set_same, get_or_past, length-replicate, length-set}
 use Rattle.kdf_journal.specs.declared.entry.Entry.{Entry}
@@ -52,7 +53,8 @@ same_claims answer (Starting d o first last after) s =
     let same = transferred_claims d o first last (fixture_at s.stock.claims d) s.stock in
     record { fixtures = ap (λ (c : Claims). c.fixtures) same; pool = ap (λ (c : Claims). c.pool) same; marks = ap (λ (c : Claims). length c.claimed) same }
 same_claims answer (Claiming d after) s = record { fixtures = refl; pool = refl; marks = length-set s.stock.claims.claimed d true }
-same_claims answer (Asking (FreeOf kind) after) s = record { fixtures = refl; pool = refl; marks = length-set s.stock.claims.claimed (taken s.stock.claims kind (answer (FreeOf kind))) true }
+same_claims answer (Asking (FreeOf kind) after) s =
+    record { fixtures = refl; pool = refl; marks = length-set s.stock.claims.claimed (taken s.stock.claims kind (answer (FreeOf kind))) true }
 same_claims answer (Returning true d after) s = record { fixtures = refl; pool = refl; marks = length-set s.stock.claims.claimed d false }
 same_claims answer (Returning false d after) s = record { fixtures = refl; pool = refl; marks = length-set s.stock.claims.claimed d false }
 same_claims answer e s = record { fixtures = refl; pool = refl; marks = refl }
@@ -165,12 +167,18 @@ module _ (slots : List Slot) (J : List Entry) (p : ℕ) (are : AreSlots slots) (
           none_claimed false = refl
 
   -- where the kind isn't pending, it is one that may be taken
-  pub answered_can : (o : Option ℕ) → free_after slots J p kind ≡ o → not (is_some o) ≡ false → (a : ℕ) × (o ≡ Some a) × (can_take c kind a ≡ true) × (holder a J ≡ None)
+  pub answered_can : (o : Option ℕ) → free_after slots J p kind ≡ o → not (is_some o) ≡ false → (a : ℕ) × (o ≡ Some a) × (can_take c kind a ≡ true)
+      × (holder a J ≡ None)
   unfolding free_after
   answered_can None is some = cc
   answered_can (Some a) is some =
-      let passes = found (is_free_after slots J p kind) (range_with_len 0 device_count) a is in
-      (a, refl, free_can a passes, no_one (holder a J) (and_parts (is_kind kind (pool_kind_at (start slots p).stock.claims a)) (not (is_some (holder a J))) passes).1)
+      let passes = found (is_free_after slots J p kind) (range_with_len 0 device_count) a is in (
+        a,
+        refl,
+        free_can a passes,
+        no_one (holder a J)
+            (and_parts (is_kind kind (pool_kind_at (start slots p).stock.claims a)) (not (is_some (holder a J))) passes).1,
+      )
     where
       no_one : (o : Option ℕ) → not (is_some o) ≡ true → o ≡ None
       no_one None e = refl
@@ -179,14 +187,16 @@ module _ (slots : List Slot) (J : List Entry) (p : ℕ) (are : AreSlots slots) (
 -- ---- a step
 
 held-stays : (slots : List Slot) (J : List Entry) (s : Step) (q : ℕ) → ran_by q s ≡ 0 → answers_by q s ≡ [] → ends_by q s ≡ false
-    → ((d : ℕ) → is_pooled (own slots J q).stock.claims d ≡ true → not (over q J) ≡ true → is_taker q (taker_by d (taker d J) s) ≡ is_taker q (taker d J)) → IsHeld slots J q → IsHeld slots (added J s) q
+    → ((d : ℕ) → is_pooled (own slots J q).stock.claims d ≡ true → not (over q J) ≡ true → is_taker q (taker_by d (taker d J) s) ≡ is_taker q (taker d J))
+    → IsHeld slots J q → IsHeld slots (added J s) q
 held-stays slots J s q none silent on same held d pooled live =
     let o = own-same slots J s q none silent in
     let was : is_pooled (own slots J q).stock.claims d ≡ true = ap (λ (t : State). is_pooled t.stock.claims d) (sym o) ∙ pooled in
     let before : not (over q J) ≡ true = sym (ap not (over-added q J s ∙ ap (λ b. b || over q J) on)) ∙ live in
     ap (λ (t : State). has_mark t d) o ∙ held d was before ∙ sym (same d was before) ∙ sym (ap (is_taker q) (taker-added d J s))
 
-module _ (slots : List Slot) (J : List Entry) (p : ℕ) (are : AreSlots slots) (kept : IsKept slots J p) (held : (q : ℕ) → IsHeld slots J q) (on : not (over p J) ≡ true) (none : HidesNone (is_pending_after slots J p) (effect_needs (mine_after J p) (next_effect (own slots J p)))) (heard : ℕ) where
+module _ (slots : List Slot) (J : List Entry) (p : ℕ) (are : AreSlots slots) (kept : IsKept slots J p) (held : (q : ℕ) → IsHeld slots J q)
+    (on : not (over p J) ≡ true) (none : HidesNone (is_pending_after slots J p) (effect_needs (mine_after J p) (next_effect (own slots J p)))) (heard : ℕ) where
   abbrev t : State
   t = own slots J p
 
@@ -197,12 +207,15 @@ module _ (slots : List Slot) (J : List Entry) (p : ℕ) (are : AreSlots slots) (
   noted e = note_of_outcome (done_by answer e t)
 
   -- what is answered where a device is taken
-  told : (kind : Kind) → HidesNone (is_pending_after slots J p) (Pool kind ∷ []) → (a : ℕ) × (answer (FreeOf kind) ≡ a) × (can_take t.stock.claims kind a ≡ true) × (holder a J ≡ None)
+  told : (kind : Kind) → HidesNone (is_pending_after slots J p) (Pool kind ∷ []) → (a : ℕ) × (answer (FreeOf kind) ≡ a)
+      × (can_take t.stock.claims kind a ≡ true) × (holder a J ≡ None)
   told kind free =
       let x = answered_can slots J p are (held p) on kind (free_after slots J p kind) refl (or_parts _ _ free).0 in
       (x.0, ap (λ (o : Option ℕ). unwrap_or o 0) x.1, x.2, x.3)
 
-  others : (q : ℕ) → p ≢ q → (e : Effect) → IsFit t.stock.claims e → IsBegun t.stock.claims e → HidesNone (is_pending_after slots J p) (effect_needs (mine_after J p) e) → (d : ℕ) → not (over q J) ≡ true → is_taker q (taker_by d (taker d J) (Obeys p (noted e))) ≡ is_taker q (taker d J)
+  others : (q : ℕ) → p ≢ q → (e : Effect) → IsFit t.stock.claims e → IsBegun t.stock.claims e
+      → HidesNone (is_pending_after slots J p) (effect_needs (mine_after J p) e) → (d : ℕ) → not (over q J) ≡ true
+      → is_taker q (taker_by d (taker d J) (Obeys p (noted e))) ≡ is_taker q (taker d J)
   others q ne (Asking (FreeOf kind) after) fit begun free d live =
       let x = told kind free in
       ⊎_elim
@@ -215,7 +228,8 @@ module _ (slots : List Slot) (J : List Entry) (p : ℕ) (are : AreSlots slots) (
   others q ne (Returning true x after) fit begun free d live =
       ⊎_elim
       (λ (same : x ≡ d).
-      let its : is_taker p (taker d J) ≡ true = subst (λ e. is_taker p (taker e J) ≡ true) same (sym (held p x (sym fit) on) ∙ mark_claimed t.stock.claims x begun) in
+      let its : is_taker p (taker d J) ≡ true = subst (λ e. is_taker p (taker e J) ≡ true) same (sym (held p x (sym fit) on)
+      ∙ mark_claimed t.stock.claims x begun) in
       ap (λ b. is_taker q (cond b None (taker d J))) (eq-eqb x d same) ∙ sym (one_taker p q (taker d J) ne its))
       (λ (other : x ≢ d). ap (λ b. is_taker q (cond b None (taker d J))) (ne_eqb x d other))
       (cases_eq x d)
@@ -225,11 +239,14 @@ module _ (slots : List Slot) (J : List Entry) (p : ℕ) (are : AreSlots slots) (
   others q ne (Asking question after) fit begun free d live = refl
   others q ne e fit begun free d live = refl
 
-  mine : (e : Effect) → IsFit t.stock.claims e → IsBegun t.stock.claims e → HidesNone (is_pending_after slots J p) (effect_needs (mine_after J p) e) → not (ends_by p (Obeys p (noted e)) || over p J) ≡ true → (d : ℕ) → is_pooled t.stock.claims d ≡ true → has_mark (perform answer e t) d ≡ is_taker p (taker_by d (taker d J) (Obeys p (noted e)))
+  mine : (e : Effect) → IsFit t.stock.claims e → IsBegun t.stock.claims e → HidesNone (is_pending_after slots J p) (effect_needs (mine_after J p) e)
+      → not (ends_by p (Obeys p (noted e)) || over p J) ≡ true → (d : ℕ) → is_pooled t.stock.claims d ≡ true
+      → has_mark (perform answer e t) d ≡ is_taker p (taker_by d (taker d J) (Obeys p (noted e)))
   mine (Failing kind) fit begun free live d pooled = cc (sym (ap (λ b. not (b || over p J)) (eq-eqb p p refl)) ∙ live)
   mine (Ending after) fit begun free live d pooled = cc (sym (ap (λ b. not (b || over p J)) (eq-eqb p p refl)) ∙ live)
   mine (Claiming x after) fit begun free live d pooled =
-      let other : d ≢ x = λ same. false≢true (ap is_some (sym ((fixed slots J p are).apart d pooled)) ∙ ap (λ e. is_some (own_fixture_at t.stock.claims e)) same ∙ fit) in
+      let other : d ≢ x = λ same. false≢true (ap is_some (sym ((fixed slots J p are).apart d pooled))
+      ∙ ap (λ e. is_some (own_fixture_at t.stock.claims e)) same ∙ fit) in
       get_or-set_other t.stock.claims.claimed x d true false other ∙ held p d pooled on
   mine (Asking (FreeOf kind) after) fit begun free live d pooled =
       let x = told kind free in
@@ -278,7 +295,8 @@ module _ (slots : List Slot) (J : List Entry) (p : ℕ) (are : AreSlots slots) (
       (λ (same : p ≡ q). subst (IsHeld slots (added J (Obeys p (noted (next_effect t))))) same its)
       (λ (ne : p ≢ q).
       let apart : eqb p q ≡ false = ne_eqb p q ne in
-      held-stays slots J (Obeys p (noted (next_effect t))) q (ap (λ b. cond b 1 0) apart) (ap (λ b. cond b (answer_in_note (noted (next_effect t))) []) apart) (ends_other (noted (next_effect t)) q apart)
+      held-stays slots J (Obeys p (noted (next_effect t))) q (ap (λ b. cond b 1 0) apart) (ap (λ b. cond b (answer_in_note (noted (next_effect t))) []) apart)
+      (ends_other (noted (next_effect t)) q apart)
       (λ d pooled live. others q ne (next_effect t) fit begun none d live) (held q))
       (cases_eq p q)
     where
@@ -288,12 +306,14 @@ module _ (slots : List Slot) (J : List Entry) (p : ℕ) (are : AreSlots slots) (
       its : IsHeld slots (added J (Obeys p (noted (next_effect t)))) p
       its d pooled live =
           let o = own-obeys slots J p answer kept.asked (kept.alive ∙ on) in
-          let there : is_pooled t.stock.claims d ≡ true = ap (λ (ks : List (Option Kind)). is_some (get_or ks d None)) (sym (same_claims answer (next_effect t) t).pool) ∙ ap (λ (x : State). is_pooled x.stock.claims d) (sym o) ∙ pooled in
+          let there : is_pooled t.stock.claims d ≡ true = ap (λ (ks : List (Option Kind)). is_some (get_or ks d None))
+          (sym (same_claims answer (next_effect t) t).pool) ∙ ap (λ (x : State). is_pooled x.stock.claims d) (sym o) ∙ pooled in
           ap (λ (x : State). has_mark x d) o
           ∙ mine (next_effect t) fit begun none (sym (ap not (over-added p J (Obeys p (noted (next_effect t))))) ∙ live) d there
           ∙ sym (ap (is_taker p) (taker-added d J (Obeys p (noted (next_effect t)))))
 
-held-added : (slots : List Slot) (J : List Entry) (heard : ℕ) (s : Step) → AreSlots slots → Meets (lone_world slots J) slots J heard s → ((q : ℕ) → IsKept slots J q) → ((q : ℕ) → IsHeld slots J q) → (q : ℕ) → IsHeld slots (added J s) q
+held-added : (slots : List Slot) (J : List Entry) (heard : ℕ) (s : Step) → AreSlots slots → Meets (lone_world slots J) slots J heard s
+    → ((q : ℕ) → IsKept slots J q) → ((q : ℕ) → IsHeld slots J q) → (q : ℕ) → IsHeld slots (added J s) q
 held-added slots J heard (Obeys p note) are m kept held q =
     rw m.2
     (turn_held slots J p are (kept p) held (next_on (lone_world slots J) slots J p m.0)
@@ -321,7 +341,8 @@ held-first slots q d pooled live = ap (λ (t : State). has_mark t d) (own-nil sl
     no_mark None d = none_marked d
     no_mark (Some s) d = none_marked d
 
-held_of : (slots : List Slot) → AreSlots slots → (P : List Step) → EachMeets slots P → course.EachNoted (is_true slots) P → (q : ℕ) → IsHeld slots (journal_of P) q
+held_of : (slots : List Slot) → AreSlots slots → (P : List Step) → EachMeets slots P → course.EachNoted (is_true slots) P → (q : ℕ)
+    → IsHeld slots (journal_of P) q
 held_of slots are [] m truly q = held-first slots q
 held_of slots are (s ∷ P) m truly q =
     let met = meets_truly slots (journal_of P) s m.1 truly.1 in
@@ -332,7 +353,9 @@ pub legal_held : (slots : List Slot) (J : List Entry) → AreSlots slots → IsL
 legal_held slots J are l truly q = rw l.in_form at (held_of slots are (steps J) l.each truly q)
 
 -- and where it takes one, it takes the one that it is truly answered
-pub legal_taken : (slots : List Slot) (J : List Entry) → AreSlots slots → IsLegal slots J → IsTrue slots J → (p heard : ℕ) (kind : Kind) → not (over p J) ≡ true → is_pending_after slots J p (Pool kind) ≡ false → taken (own slots J p).stock.claims kind (truth (lone_world slots J) J p heard (FreeOf kind)) ≡ truth (lone_world slots J) J p heard (FreeOf kind)
+pub legal_taken : (slots : List Slot) (J : List Entry) → AreSlots slots → IsLegal slots J → IsTrue slots J → (p heard : ℕ) (kind : Kind)
+    → not (over p J) ≡ true → is_pending_after slots J p (Pool kind) ≡ false
+    → taken (own slots J p).stock.claims kind (truth (lone_world slots J) J p heard (FreeOf kind)) ≡ truth (lone_world slots J) J p heard (FreeOf kind)
 legal_taken slots J are l truly p heard kind live free =
     let x = answered_can slots J p are (legal_held slots J are l truly p) live kind (free_after slots J p kind) refl free in
     let a : ℕ = truth (lone_world slots J) J p heard (FreeOf kind) in

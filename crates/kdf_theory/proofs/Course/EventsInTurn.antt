@@ -25,7 +25,9 @@ pub no_calls : (slots : List Slot) (P : List Step) (es : List Event) → Reaches
 no_calls slots P es = rw calls_made-nil (reach-nil (lone_dispatched slots) P)
 
 -- a journal that goes on after its schedule's first events
-pub went-on : (answers : ℕ → ℕ → Type 0) (slots : List Slot) (es : List Event) (i : ℕ) (J K : List Entry) → IsJournalFor answers slots (take i es) J → IsLegal slots K → IsTrueFor answers slots K → Reaches (lone_dispatched slots) (steps J) (calls_made (drop i es)) (steps K) → IsJournalFor answers slots es K
+pub went-on : (answers : ℕ → ℕ → Type 0) (slots : List Slot) (es : List Event) (i : ℕ) (J K : List Entry) → IsJournalFor answers slots (take i es) J
+    → IsLegal slots K → IsTrueFor answers slots K → Reaches (lone_dispatched slots) (steps J) (calls_made (drop i es)) (steps K)
+    → IsJournalFor answers slots es K
 went-on answers slots es i J K j l truly r = record {
   legal = l;
   truly = truly;
@@ -42,18 +44,21 @@ no-events answers slots es J fresh =
     (record {
       legal = legal_nil slots;
       truly = true_for_nil answers slots;
-      whole = reach-whole (lone_dispatched slots) (calls_made []) [] (rw steps-nil refl) (rw (calls_made-nil, steps-nil) (reach-nil (lone_dispatched slots) []));
+      whole = reach-whole (lone_dispatched slots) (calls_made []) [] (rw steps-nil refl)
+          (rw (calls_made-nil, steps-nil) (reach-nil (lone_dispatched slots) []));
     })
 
 module _ (slots0 : List Slot) (P : List Step) (es : List Event) (i : ℕ) where
-  module _ (slots : List Slot) (J : List Entry) (l : IsLegal slots J) (same : slots ≡ slots0) (taken : Reaches (lone_dispatched slots0) P (calls_made (take i es)) (steps J)) where
+  module _ (slots : List Slot) (J : List Entry) (l : IsLegal slots J) (same : slots ≡ slots0)
+      (taken : Reaches (lone_dispatched slots0) P (calls_made (take i es)) (steps J)) where
     live_here : (b : Bool) → any_live slots J ≡ b → any_live slots0 (journal_of (steps J)) ≡ b
     live_here b is = rw (l.in_form, ← same) is
 
     -- the events are over before their end, where no program is live
     pub ended_early : any_live slots J ≡ false → Reaches (lone_dispatched slots0) P (calls_made es) (steps J)
     ended_early dead =
-        let all : calls_made (take i es) ++ calls_made (drop i es) ≡ calls_made es = sym (calls_made-append (take i es) (drop i es)) ∙ ap calls_made (take-append-drop i es) in
+        let all : calls_made (take i es) ++ calls_made (drop i es) ≡ calls_made es = sym (calls_made-append (take i es) (drop i es))
+        ∙ ap calls_made (take-append-drop i es) in
         subst (λ (cs : List Call). Reaches (lone_dispatched slots0) P cs (steps J)) all
         (reach-dead (lone_dispatched slots0) P (steps J) (calls_made (take i es)) (calls_made (drop i es)) taken (live_here false dead))
 
@@ -61,7 +66,8 @@ module _ (slots0 : List Slot) (P : List Step) (es : List Event) (i : ℕ) where
     ended_late le = subst (λ (fs : List Event). Reaches (lone_dispatched slots0) P (calls_made fs) (steps J)) (take_all i es le) taken
 
     -- calls of an event more, whose calls those of the next events are
-    pub some_more : (K : List Entry) (k : ℕ) (e : Event) → calls_made (take k (drop i es)) ≡ calls_of e → any_live slots J ≡ true → Reaches (lone_dispatched slots) (steps J) (calls_of e) (steps K) → Reaches (lone_dispatched slots0) P (calls_made (take (i + k) es)) (steps K)
+    pub some_more : (K : List Entry) (k : ℕ) (e : Event) → calls_made (take k (drop i es)) ≡ calls_of e → any_live slots J ≡ true
+        → Reaches (lone_dispatched slots) (steps J) (calls_of e) (steps K) → Reaches (lone_dispatched slots0) P (calls_made (take (i + k) es)) (steps K)
     some_more K k e made live reached =
         let next : calls_made (take (i + k) es) ≡ calls_made (take i es) ++ calls_of e =
         ap calls_made (take-add i k es) ∙ (calls_made-append (take i es) (take k (drop i es)) ∙ ap (λ (cs : List Call). calls_made (take i es) ++ cs) made) in
@@ -100,10 +106,12 @@ rises-rest t (Clock u) es rises = rises.1
 rises-rest t (Swap p q) es rises = rises.2
 
 -- the orders are over before their end, where no program is live
-pub rested : (slots slots0 : List Slot) (J : List Entry) (P : List Step) (i n : ℕ) → IsLegal slots J → slots ≡ slots0 → Reaches (lone_dispatched slots0) P (replicate i AnOrder) (steps J) → any_live slots J ≡ false → i ≤ n
+pub rested : (slots slots0 : List Slot) (J : List Entry) (P : List Step) (i n : ℕ) → IsLegal slots J → slots ≡ slots0
+    → Reaches (lone_dispatched slots0) P (replicate i AnOrder) (steps J) → any_live slots J ≡ false → i ≤ n
     → Reaches (lone_dispatched slots0) P (replicate n AnOrder) (steps J)
 rested slots slots0 J P i n l same taken dead le =
-    let whole : replicate i AnOrder ++ replicate (n - i) AnOrder ≡ replicate n AnOrder = replicate-append-replicate i (n - i) AnOrder ∙ ap (λ (k : ℕ). replicate k AnOrder) (omega arith) in
+    let whole : replicate i AnOrder ++ replicate (n - i) AnOrder ≡ replicate n AnOrder = replicate-append-replicate i (n - i) AnOrder
+    ∙ ap (λ (k : ℕ). replicate k AnOrder) (omega arith) in
     let none : any_live slots0 (journal_of (steps J)) ≡ false = rw (l.in_form, ← same) dead in
     subst (λ (cs : List Call). Reaches (lone_dispatched slots0) P cs (steps J)) whole
     (reach-dead (lone_dispatched slots0) P (steps J) (replicate i AnOrder) (replicate (n - i) AnOrder) taken none)

@@ -1,5 +1,6 @@
 -- What one step more of a journal makes of the transfers that are in flight.
-use Rattle.std.proofs.Common.{◌≡◌, ◌≢◌, ℕ, ◌+◌, ◌-◌, ◌≤◌, min, List, [], ◌∷◌, length, Option, Some, None, is_some, Bool, true, false, cond, eqb, refl, sym, ◌∙◌, ap, ap₂, ⊎_elim, arith}
+use Rattle.std.proofs.Common.{◌≡◌, ◌≢◌, ℕ, ◌+◌, ◌-◌, ◌≤◌, min, List, [], ◌∷◌, length, Option, Some, None, is_some, Bool, true, false, cond, eqb, refl, sym, ◌∙◌}
+use Rattle.std.proofs.Common.{ap, ap₂, ⊎_elim, arith}
 use Rattle.std.specs.Prelude.{fold, unwrap_or}
 use Rattle.std.specs.Option.{option_map}
 use Rattle.std.proofs.Math.Nat.{zero-min}
@@ -46,7 +47,8 @@ counted_one d m o (Move e n) same = more_of (eqb e d) n m ∙ same
 counted_one d m o (End e) same = none_of (eqb e d) m o same
 counted_one d m o e same = same
 
-counted_all : (d : ℕ) (es : List Entry) (m : Option ℕ) (o : Option (ℕ × ℕ)) → is_some m ≡ is_some o → is_some (fold (moved_after d) m es) ≡ is_some (fold (pending_after d) o es)
+counted_all : (d : ℕ) (es : List Entry) (m : Option ℕ) (o : Option (ℕ × ℕ)) → is_some m ≡ is_some o
+    → is_some (fold (moved_after d) m es) ≡ is_some (fold (pending_after d) o es)
 counted_all d [] m o same = same
 counted_all d (e ∷ es) m o same = counted_all d es (moved_after d m e) (pending_after d o e) (counted_one d m o e same)
 
@@ -65,14 +67,16 @@ IsPast p n None = Unit {0}
 IsPast p n (Some begun) = eqb begun.0 p ≡ true → begun.1 ≤ n
 
 -- what a program was after an earlier order stays
-pub earlier : (slots : List Slot) (J : List Entry) (s : Step) (p k : ℕ) → (own slots J p).stock.asked ≡ length (answers p J) → k ≤ ran p J → own_after slots (added J s) p k ≡ own_after slots J p k
+pub earlier : (slots : List Slot) (J : List Entry) (s : Step) (p k : ℕ) → (own slots J p).stock.asked ≡ length (answers p J) → k ≤ ran p J
+    → own_after slots (added J s) p k ≡ own_after slots J p k
 unfolding own
 earlier slots J s p k asked le =
     ap (λ (xs : List ℕ). lone (start slots p) xs k) (answers-added p J s)
     ∙ longer (start slots p) (answers p J) (answers_by p s) (ran p J) (omega (arith, asked)) k le
 
 -- with the same lone states and as many words called for, the transfer of a device is the same
-flight-same : (slots : List Slot) (J K : List Entry) (p d : ℕ) (o : Option (ℕ × ℕ)) → IsPast p (ran p J) o → ((k : ℕ) → k ≤ ran p J → own_after slots K p k ≡ own_after slots J p k) → moved d K ≡ moved d J → flight_of slots K p d o ≡ flight_of slots J p d o
+flight-same : (slots : List Slot) (J K : List Entry) (p d : ℕ) (o : Option (ℕ × ℕ)) → IsPast p (ran p J) o
+    → ((k : ℕ) → k ≤ ran p J → own_after slots K p k ≡ own_after slots J p k) → moved d K ≡ moved d J → flight_of slots K p d o ≡ flight_of slots J p d o
 flight-same slots J K p d None past kept words = refl
 flight-same slots J K p d (Some begun) past kept words =
     ⊎_elim
@@ -83,12 +87,15 @@ flight-same slots J K p d (Some begun) past kept words =
     (cases_Bool (eqb begun.0 p))
 
 -- ---- a step that doesn't run program p, or begins no transfer
-module _ (slots : List Slot) (J : List Entry) (p : ℕ) (asked : (own slots J p).stock.asked ≡ length (answers p J)) (past : (d : ℕ) → IsPast p (ran p J) (pending d J)) where
-  pub flight-stays : (s : Step) (d : ℕ) → pending_by d (pending d J) s ≡ pending d J → moved_by d (moved_if d J) s ≡ moved_if d J → flights_of slots (added J s) p d ≡ flights_of slots J p d
+module _ (slots : List Slot) (J : List Entry) (p : ℕ) (asked : (own slots J p).stock.asked ≡ length (answers p J))
+    (past : (d : ℕ) → IsPast p (ran p J) (pending d J)) where
+  pub flight-stays : (s : Step) (d : ℕ) → pending_by d (pending d J) s ≡ pending d J → moved_by d (moved_if d J) s ≡ moved_if d J
+      → flights_of slots (added J s) p d ≡ flights_of slots J p d
   unfolding flights_of
   flight-stays s d same words =
       ap (flight_of slots (added J s) p d) (pending-added d J s ∙ same)
-      ∙ flight-same slots J (added J s) p d (pending d J) (past d) (λ k le. earlier slots J s p k asked le) (ap (λ (m : Option ℕ). unwrap_or m 0) (moved_if-added d J s ∙ words))
+      ∙ flight-same slots J (added J s) p d (pending d J) (past d) (λ k le. earlier slots J s p k asked le)
+      (ap (λ (m : Option ℕ). unwrap_or m 0) (moved_if-added d J s ∙ words))
 
   -- a device without a transfer has none
   pub none-there : (d : ℕ) → pending d J ≡ None → flights_of slots J p d ≡ None
@@ -123,19 +130,23 @@ further_by m n d s (Starting x o first last after) = ap (λ (f : Flight). Some f
 further_by m n d s (Failing kind) = refl
 further_by m n d s e = refl
 
-module _ (slots : List Slot) (J : List Entry) (p : ℕ) (asked : (own slots J p).stock.asked ≡ length (answers p J)) (past : (d : ℕ) → IsPast p (ran p J) (pending d J)) where
+module _ (slots : List Slot) (J : List Entry) (p : ℕ) (asked : (own slots J p).stock.asked ≡ length (answers p J))
+    (past : (d : ℕ) → IsPast p (ran p J) (pending d J)) where
   moved_more : (d n : ℕ) → is_some (pending d J) ≡ true → moved d (added J (Moves d n)) ≡ moved d J + n
   moved_more d n is =
-      ap (λ (m : Option ℕ). unwrap_or m 0) (moved_if-added d J (Moves d n) ∙ ap (λ (b : Bool). cond b (option_map (λ words. words + n) (moved_if d J)) (moved_if d J)) (eq-eqb d d refl))
+      ap (λ (m : Option ℕ). unwrap_or m 0) (moved_if-added d J (Moves d n)
+      ∙ ap (λ (b : Bool). cond b (option_map (λ words. words + n) (moved_if d J)) (moved_if d J)) (eq-eqb d d refl))
       ∙ sum_of n (moved_if d J) (counted d J ∙ is)
 
-  further_of : (d n : ℕ) (o : Option (ℕ × ℕ)) → IsPast p (ran p J) o → (is_some o ≡ true → moved d (added J (Moves d n)) ≡ moved d J + n) → flight_of slots (added J (Moves d n)) p d o ≡ further d n (flight_of slots J p d o)
+  further_of : (d n : ℕ) (o : Option (ℕ × ℕ)) → IsPast p (ran p J) o → (is_some o ≡ true → moved d (added J (Moves d n)) ≡ moved d J + n)
+      → flight_of slots (added J (Moves d n)) p d o ≡ further d n (flight_of slots J p d o)
   further_of d n None past words = refl
   further_of d n (Some begun) past words =
       ⊎_elim
       (λ (mine : eqb begun.0 p ≡ true).
       let most : begun.1 ≤ ran p J = past mine in
-      ap₂ (λ (m : ℕ) (s : State). cond (eqb begun.0 p) (flight_by m d s (next_effect s)) None) (words refl) (earlier slots J (Moves d n) p (begun.1 - 1) asked (omega arith))
+      ap₂ (λ (m : ℕ) (s : State). cond (eqb begun.0 p) (flight_by m d s (next_effect s)) None) (words refl)
+      (earlier slots J (Moves d n) p (begun.1 - 1) asked (omega arith))
       ∙ ap (λ (b : Bool). cond b (flight_by (moved d J + n) d (own_after slots J p (begun.1 - 1)) (next_effect (own_after slots J p (begun.1 - 1)))) None) mine
       ∙ further_by (moved d J) n d (own_after slots J p (begun.1 - 1)) (next_effect (own_after slots J p (begun.1 - 1)))
       ∙ sym (ap (λ (b : Bool). further d n (cond b (flight_from slots J p d begun.1) None)) mine))
@@ -172,7 +183,8 @@ abbrev pub pending_behind : ℕ → ℕ → ℕ → Option (ℕ × ℕ) → Effe
 pending_behind p k x o (Starting d order first last after) = cond (eqb d x) (begun_at p k) o
 pending_behind p k x o e = o
 
-pub pending-obeys : (p x : ℕ) (o : Option (ℕ × ℕ)) (answer : Question → ℕ) (e : Effect) (s : State) → pending_by x o (Obeys p (note_of_outcome (done_by answer e s))) ≡ pending_behind p (s.registers.ran + 1) x o e
+pub pending-obeys : (p x : ℕ) (o : Option (ℕ × ℕ)) (answer : Question → ℕ) (e : Effect) (s : State)
+    → pending_by x o (Obeys p (note_of_outcome (done_by answer e s))) ≡ pending_behind p (s.registers.ran + 1) x o e
 pending-obeys p x o answer (Failing kind) s = refl
 pending-obeys p x o answer (Asking (FreeOf kind) after) s = refl
 pending-obeys p x o answer (Returning true d after) s = refl
@@ -184,14 +196,16 @@ abbrev moved_behind : ℕ → Option ℕ → Effect → Option ℕ
 moved_behind x m (Starting d order first last after) = cond (eqb d x) (Some 0) m
 moved_behind x m e = m
 
-moved-obeys : (p x : ℕ) (m : Option ℕ) (answer : Question → ℕ) (e : Effect) (s : State) → moved_by x m (Obeys p (note_of_outcome (done_by answer e s))) ≡ moved_behind x m e
+moved-obeys : (p x : ℕ) (m : Option ℕ) (answer : Question → ℕ) (e : Effect) (s : State) → moved_by x m (Obeys p (note_of_outcome (done_by answer e s)))
+    ≡ moved_behind x m e
 moved-obeys p x m answer (Failing kind) s = refl
 moved-obeys p x m answer (Asking (FreeOf kind) after) s = refl
 moved-obeys p x m answer (Returning true d after) s = refl
 moved-obeys p x m answer (Returning false d after) s = refl
 moved-obeys p x m answer e s = refl
 
-module _ (slots : List Slot) (J : List Entry) (p : ℕ) (answer : Question → ℕ) (asked : (own slots J p).stock.asked ≡ length (answers p J)) (past : (d : ℕ) → IsPast p (ran p J) (pending d J)) (count : (own slots J p).registers.ran ≡ ran p J) where
+module _ (slots : List Slot) (J : List Entry) (p : ℕ) (answer : Question → ℕ) (asked : (own slots J p).stock.asked ≡ length (answers p J))
+    (past : (d : ℕ) → IsPast p (ran p J) (pending d J)) (count : (own slots J p).registers.ran ≡ ran p J) where
   abbrev noted : Effect → Note
   noted e = note_of_outcome (done_by answer e (own slots J p))
 
@@ -202,21 +216,25 @@ module _ (slots : List Slot) (J : List Entry) (p : ℕ) (answer : Question → �
       let this : (lone (start slots p) (answers p J) (ran p J)).registers.ran + 1 - 1 ≡ ran p J = omega (arith, count) in
       ap (own_after slots (added J (Obeys p (noted e))) p) this ∙ earlier slots J (Obeys p (noted e)) p (ran p J) asked (omega arith)
 
-  began : (d x : ℕ) (o : TransferOrder) (first last : ℕ) (after : Registers) → next_effect (own slots J p) ≡ Starting d o first last after → x ≡ d → flights_of slots (added J (Obeys p (noted (Starting d o first last after)))) p x ≡ Some (beginning o first last (own slots J p))
+  began : (d x : ℕ) (o : TransferOrder) (first last : ℕ) (after : Registers) → next_effect (own slots J p) ≡ Starting d o first last after → x ≡ d
+      → flights_of slots (added J (Obeys p (noted (Starting d o first last after)))) p x ≡ Some (beginning o first last (own slots J p))
   unfolding flights_of
   began d x o first last after is same =
       let K : List Entry = added J (Obeys p (noted (Starting d o first last after))) in
       let k : ℕ = (own slots J p).registers.ran + 1 in
       let this : eqb d x ≡ true = eq-eqb d x (sym same) in
-      let there : pending x K ≡ begun_at p k = pending-added x J (Obeys p (noted (Starting d o first last after))) ∙ ap (λ (b : Bool). cond b (begun_at p k) (pending x J)) this in
-      let none : moved x K ≡ 0 = ap (λ (m : Option ℕ). unwrap_or m 0) (moved_if-added x J (Obeys p (noted (Starting d o first last after))) ∙ ap (λ (b : Bool). cond b (Some 0) (moved_if x J)) this) in
+      let there : pending x K ≡ begun_at p k = pending-added x J (Obeys p (noted (Starting d o first last after)))
+      ∙ ap (λ (b : Bool). cond b (begun_at p k) (pending x J)) this in
+      let none : moved x K ≡ 0 = ap (λ (m : Option ℕ). unwrap_or m 0) (moved_if-added x J (Obeys p (noted (Starting d o first last after)))
+      ∙ ap (λ (b : Bool). cond b (Some 0) (moved_if x J)) this) in
       ap (flight_of slots K p x) there
       ∙ ap (λ (b : Bool). cond b (flight_from slots K p x k) None) (eq-eqb p p refl)
       ∙ ap₂ (λ (m : ℕ) (s : State). flight_by m x s (next_effect s)) none (met (Starting d o first last after))
       ∙ ap (flight_by 0 x (own slots J p)) is
       ∙ ap (λ (m : ℕ). Some (moved_to m (beginning o first last (own slots J p)))) (zero-min (move_count x (beginning o first last (own slots J p))))
 
-  went : (e : Effect) → next_effect (own slots J p) ≡ e → (x : ℕ) → flights_of slots (added J (Obeys p (noted e))) p x ≡ flights_after (flights_of slots J p) (own slots J p) e x
+  went : (e : Effect) → next_effect (own slots J p) ≡ e → (x : ℕ) → flights_of slots (added J (Obeys p (noted e))) p x ≡ flights_after (flights_of slots J p)
+      (own slots J p) e x
   went (Starting d o first last after) is x =
       ⊎_elim
       (λ (same : x ≡ d).
@@ -237,7 +255,8 @@ module _ (slots : List Slot) (J : List Entry) (p : ℕ) (answer : Question → �
   went e is x = flight-stays slots J p asked past (Obeys p (noted e)) x refl refl
 
   -- an order that begins a transfer makes it one of those in flight, and no other changes them
-  pub flights-obey : flights_of slots (added J (Obeys p (noted (next_effect (own slots J p))))) p ≡ flights_after (flights_of slots J p) (own slots J p) (next_effect (own slots J p))
+  pub flights-obey : flights_of slots (added J (Obeys p (noted (next_effect (own slots J p))))) p ≡ flights_after (flights_of slots J p) (own slots J p)
+      (next_effect (own slots J p))
   flights-obey = fun_ext (went (next_effect (own slots J p)) refl)
 
 -- ---- what a transfer is
@@ -252,11 +271,13 @@ told_by n d s (Starting x o first last after) f is =
     )
 told_by n d s e f is = cc
 
-told_if : (slots : List Slot) (J : List Entry) (p d k : ℕ) (b : Bool) (f : Flight) → cond b (flight_from slots J p d k) None ≡ Some f → (f.before ≡ own_after slots J p (k - 1)) × (f.moved ≡ min (moved d J) (move_count d f))
+told_if : (slots : List Slot) (J : List Entry) (p d k : ℕ) (b : Bool) (f : Flight) → cond b (flight_from slots J p d k) None ≡ Some f
+    → (f.before ≡ own_after slots J p (k - 1)) × (f.moved ≡ min (moved d J) (move_count d f))
 told_if slots J p d k true f is = told_by (moved d J) d (own_after slots J p (k - 1)) (next_effect (own_after slots J p (k - 1))) f is
 told_if slots J p d k false f is = cc
 
 -- it met the lone state that its order met, and has moved as many words as were called for, at most all
-pub flight-told : (slots : List Slot) (J : List Entry) (p d k : ℕ) (f : Flight) → pending d J ≡ Some (p, k) → flights_of slots J p d ≡ Some f → (f.before ≡ own_after slots J p (k - 1)) × (f.moved ≡ min (moved d J) (move_count d f))
+pub flight-told : (slots : List Slot) (J : List Entry) (p d k : ℕ) (f : Flight) → pending d J ≡ Some (p, k) → flights_of slots J p d ≡ Some f
+    → (f.before ≡ own_after slots J p (k - 1)) × (f.moved ≡ min (moved d J) (move_count d f))
 unfolding flights_of
 flight-told slots J p d k f at is = told_if slots J p d k (eqb p p) f (sym (ap (flight_of slots J p d) at) ∙ is)

@@ -1,5 +1,6 @@
 -- At each moment of a legal journal the transfers of each program are in flight.
-use Rattle.std.proofs.Common.{◌≡◌, ◌≢◌, ℕ, ◌+◌, ◌≤◌, min, List, [], ◌∷◌, length, Option, Some, None, is_some, Bool, true, false, cond, ◌||◌, eqb, refl, sym, ◌∙◌, ap, ap₂, subst, subst₂, ⊎_elim, arith}
+use Rattle.std.proofs.Common.{◌≡◌, ◌≢◌, ℕ, ◌+◌, ◌≤◌, min, List, [], ◌∷◌, length, Option, Some, None, is_some, Bool, true, false, cond, ◌||◌, eqb, refl, sym}
+use Rattle.std.proofs.Common.{◌∙◌, ap, ap₂, subst, subst₂, ⊎_elim, arith}
 use Rattle.std.specs.Prelude.{find}
 use Rattle.std.specs.List.{filter, list_any, range_with_len}
 use Rattle.std.proofs.Math.Path.{fun_ext}
@@ -30,7 +31,8 @@ use Rattle.kdf_theory.specs.ByJournal.{own, flights_of, flight_from, flight_of, 
 use Rattle.kdf_theory.specs.World.{first_need}
 use Rattle.kdf_theory.proofs.Seen.OrdersSeen.{begun_seen, with_flight_is, with_flight_other}
 use Rattle.kdf_theory.proofs.Seen.TransfersEnd.{flying_ended}
-use Rattle.kdf_theory.proofs.Course.FlightsAdded.{IsPast, begun_at, flight-stays, flights-end, flights-move, flights-obey, none-there, pending_behind, pending-obeys}
+use Rattle.kdf_theory.proofs.Course.FlightsAdded.{IsPast, begun_at, flight-stays, flights-end, flights-move, flights-obey, none-there, pending_behind}
+use Rattle.kdf_theory.proofs.Course.FlightsAdded.{pending-obeys}
 use Rattle.kdf_theory.proofs.Course.WorldsJudged.{free_need}
 use Rattle.kdf_theory.proofs.Course.LegalFacts.{IsKept, kept_of}
 use Rattle.kdf_theory.proofs.Seen.WordsMove.{flying_moved}
@@ -73,13 +75,16 @@ none_found f (n ∷ ns) e =
     ap₂ (λ (a b : Bool). a || b) parts.0 (none_found f ns parts.1)
 
 -- a program that nothing holds up has no need that is pending
-pub free : (slots : List Slot) (J : List Entry) (p : ℕ) → first_need (lone_world slots J) p ≡ None → HidesNone (is_pending_after slots J p) (needs (own slots J p) (mine_after J p))
+pub free : (slots : List Slot) (J : List Entry) (p : ℕ) → first_need (lone_world slots J) p ≡ None
+    → HidesNone (is_pending_after slots J p) (needs (own slots J p) (mine_after J p))
 unfolding first_need
 free slots J p none = none_found (is_pending_after slots J p) (needs (own slots J p) (mine_after J p)) none
 
 -- and none that its own transfers make pending
-pub apart-mine : (slots : List Slot) (J : List Entry) (p : ℕ) → HidesNone (is_pending_after slots J p) (needs (own slots J p) (mine_after J p)) → HidesNone (pending (flights_of slots J p)) (needs (own slots J p) (mine_after J p))
-apart-mine slots J p none = hides_less (pending (flights_of slots J p)) (is_pending_after slots J p) (pending-more slots J p) (needs (own slots J p) (mine_after J p)) none
+pub apart-mine : (slots : List Slot) (J : List Entry) (p : ℕ) → HidesNone (is_pending_after slots J p) (needs (own slots J p) (mine_after J p))
+    → HidesNone (pending (flights_of slots J p)) (needs (own slots J p) (mine_after J p))
+apart-mine slots J p none = hides_less (pending (flights_of slots J p)) (is_pending_after slots J p) (pending-more slots J p)
+    (needs (own slots J p) (mine_after J p)) none
 
 pub effect-free : (hidden : Need → Bool) (mine : List ℕ) (s : State) → HidesNone hidden (needs s mine) → HidesNone hidden (effect_needs mine (next_effect s))
 effect-free hidden mine s none =
@@ -96,7 +101,8 @@ pub record IsOnCourse (slots : List Slot) (J : List Entry) (p : ℕ) : Type 0 wh
   pub over : is_live (own slots J p).registers.state ≡ false → (d : ℕ) → flights_of slots J p d ≡ None
 
 -- so they are on the devices that the journal tells
-pub mine-same : (slots : List Slot) (J : List Entry) (p : ℕ) → ((d : ℕ) → is_some (flights_of slots J p d) ≡ is_of p (pending_in d J)) → mine_after J p ≡ mine_of (flights_of slots J p)
+pub mine-same : (slots : List Slot) (J : List Entry) (p : ℕ) → ((d : ℕ) → is_some (flights_of slots J p d) ≡ is_of p (pending_in d J))
+    → mine_after J p ≡ mine_of (flights_of slots J p)
 unfolding mine_after
 mine-same slots J p mine = ap (λ (test : ℕ → Bool). filter test (range_with_len 0 device_count)) (fun_ext (λ d. sym (mine d)))
 
@@ -116,7 +122,8 @@ past_behind : (p k d n : ℕ) (o : Option (ℕ × ℕ)) (e : Effect) → k ≤ n
 past_behind p k d n o (Starting x order first last after) le past = past_begun (eqb x d) p k n o le past
 past_behind p k d n o e le past = past
 
-mine_behind : (p k d : ℕ) (flights : ℕ → Option Flight) (s : State) (o : Option (ℕ × ℕ)) (e : Effect) → is_some (flights d) ≡ is_of p o → is_some (flights_after flights s e d) ≡ is_of p (pending_behind p k d o e)
+mine_behind : (p k d : ℕ) (flights : ℕ → Option Flight) (s : State) (o : Option (ℕ × ℕ)) (e : Effect) → is_some (flights d) ≡ is_of p o
+    → is_some (flights_after flights s e d) ≡ is_of p (pending_behind p k d o e)
 mine_behind p k d flights s o (Starting x order first last after) mine =
     ⊎_elim
     (λ (same : d ≡ x).
@@ -130,13 +137,16 @@ mine_behind p k d flights s o (Starting x order first last after) mine =
 mine_behind p k d flights s o e mine = mine
 
 -- an order after which the program isn't live begins no transfer
-over_after : (flights : ℕ → Option Flight) (answer : Question → ℕ) (e : Effect) (s : State) → is_live s.registers.state ≡ true → is_live (perform answer e s).registers.state ≡ false → flights_after flights s e ≡ flights
+over_after : (flights : ℕ → Option Flight) (answer : Question → ℕ) (e : Effect) (s : State) → is_live s.registers.state ≡ true
+    → is_live (perform answer e s).registers.state ≡ false → flights_after flights s e ≡ flights
 over_after flights answer (Failing kind) s live over = refl
 over_after flights answer (Ending after) s live over = refl
 over_after flights answer e s live over = absurd (false≢true (sym over ∙ live))
 
 -- ---- the program that obeys
-module _ (slots : List Slot) (J : List Entry) (p : ℕ) (answer : Question → ℕ) (asked : (own slots J p).stock.asked ≡ length (answers p J)) (live : is_live (own slots J p).registers.state ≡ true) (course : IsOnCourse slots J p) (none : HidesNone (is_pending_after slots J p) (needs (own slots J p) (mine_after J p))) where
+module _ (slots : List Slot) (J : List Entry) (p : ℕ) (answer : Question → ℕ) (asked : (own slots J p).stock.asked ≡ length (answers p J))
+    (live : is_live (own slots J p).registers.state ≡ true) (course : IsOnCourse slots J p)
+    (none : HidesNone (is_pending_after slots J p) (needs (own slots J p) (mine_after J p))) where
   abbrev obeying : Step
   obeying = Obeys p (note_of (own slots J p) answer)
 
@@ -153,7 +163,8 @@ module _ (slots : List Slot) (J : List Entry) (p : ℕ) (answer : Question → �
   pub seen-then : seen_of slots (added J obeying) p ≡ begun_row (seen_of slots J p) answer
   seen-then = ap₂ seen flights-then own-then ∙ sym (begun_seen (flights_of slots J p) (mine_after J p) (own slots J p) apart answer)
 
-  pending-then : (d : ℕ) → pending_in d (added J obeying) ≡ pending_behind p ((own slots J p).registers.ran + 1) d (pending_in d J) (next_effect (own slots J p))
+  pending-then : (d : ℕ) → pending_in d (added J obeying) ≡ pending_behind p ((own slots J p).registers.ran + 1) d (pending_in d J)
+      (next_effect (own slots J p))
   pending-then d = pending-added d J obeying ∙ pending-obeys p d (pending_in d J) answer (next_effect (own slots J p)) (own slots J p)
 
   ran-then : ran p (added J obeying) ≡ ran p J + 1
@@ -169,7 +180,8 @@ module _ (slots : List Slot) (J : List Entry) (p : ℕ) (answer : Question → �
   mine-then : (d : ℕ) → is_some (flights_of slots (added J obeying) p d) ≡ is_of p (pending_in d (added J obeying))
   mine-then d =
       ap (λ (fs : ℕ → Option Flight). is_some (fs d)) flights-then
-      ∙ mine_behind p ((own slots J p).registers.ran + 1) d (flights_of slots J p) (own slots J p) (pending_in d J) (next_effect (own slots J p)) (course.mine d)
+      ∙ mine_behind p ((own slots J p).registers.ran + 1) d (flights_of slots J p) (own slots J p) (pending_in d J) (next_effect (own slots J p))
+      (course.mine d)
       ∙ sym (ap (is_of p) (pending-then d))
 
   none-mine : HidesNone (pending (flights_of slots J p)) (needs (own slots J p) (mine_of (flights_of slots J p)))
@@ -191,7 +203,9 @@ module _ (slots : List Slot) (J : List Entry) (p : ℕ) (answer : Question → �
   }
 
 -- ---- a program of which another journal tells the same
-course-like : (slots : List Slot) (J K : List Entry) (q : ℕ) → ran q K ≡ ran q J → own slots K q ≡ own slots J q → ((d : ℕ) → flights_of slots K q d ≡ flights_of slots J q d) → ((d : ℕ) → IsPast q (ran q J) (pending_in d K)) → ((d : ℕ) → is_of q (pending_in d K) ≡ is_of q (pending_in d J)) → IsOnCourse slots J q → IsOnCourse slots K q
+course-like : (slots : List Slot) (J K : List Entry) (q : ℕ) → ran q K ≡ ran q J → own slots K q ≡ own slots J q
+    → ((d : ℕ) → flights_of slots K q d ≡ flights_of slots J q d) → ((d : ℕ) → IsPast q (ran q J) (pending_in d K))
+    → ((d : ℕ) → is_of q (pending_in d K) ≡ is_of q (pending_in d J)) → IsOnCourse slots J q → IsOnCourse slots K q
 course-like slots J K q count same flights past mine course = record {
   past = λ d. subst (λ (n : ℕ). IsPast q n (pending_in d K)) (sym count) (past d);
   mine = λ d. ap is_some (flights d) ∙ course.mine d ∙ sym (mine d);
@@ -200,10 +214,14 @@ course-like slots J K q count same flights past mine course = record {
 }
 
 -- a step that runs no order of it and touches no transfer
-pub flights-quiet : (slots : List Slot) (J : List Entry) (s : Step) (q : ℕ) → (own slots J q).stock.asked ≡ length (answers q J) → ((d : ℕ) → pending_by d (pending_in d J) s ≡ pending_in d J) → ((d : ℕ) → moved_by d (moved_if d J) s ≡ moved_if d J) → IsOnCourse slots J q → (d : ℕ) → flights_of slots (added J s) q d ≡ flights_of slots J q d
+pub flights-quiet : (slots : List Slot) (J : List Entry) (s : Step) (q : ℕ) → (own slots J q).stock.asked ≡ length (answers q J)
+    → ((d : ℕ) → pending_by d (pending_in d J) s ≡ pending_in d J) → ((d : ℕ) → moved_by d (moved_if d J) s ≡ moved_if d J) → IsOnCourse slots J q → (d : ℕ)
+    → flights_of slots (added J s) q d ≡ flights_of slots J q d
 flights-quiet slots J s q asked same words course d = flight-stays slots J q asked course.past s d (same d) (words d)
 
-course-quiet : (slots : List Slot) (J : List Entry) (s : Step) (q : ℕ) → (own slots J q).stock.asked ≡ length (answers q J) → ran_by q s ≡ 0 → answers_by q s ≡ [] → ((d : ℕ) → pending_by d (pending_in d J) s ≡ pending_in d J) → ((d : ℕ) → moved_by d (moved_if d J) s ≡ moved_if d J) → IsOnCourse slots J q → IsOnCourse slots (added J s) q
+course-quiet : (slots : List Slot) (J : List Entry) (s : Step) (q : ℕ) → (own slots J q).stock.asked ≡ length (answers q J) → ran_by q s ≡ 0
+    → answers_by q s ≡ [] → ((d : ℕ) → pending_by d (pending_in d J) s ≡ pending_in d J) → ((d : ℕ) → moved_by d (moved_if d J) s ≡ moved_if d J)
+    → IsOnCourse slots J q → IsOnCourse slots (added J s) q
 course-quiet slots J s q asked none silent same words course =
     let there : (d : ℕ) → pending_in d (added J s) ≡ pending_in d J = λ d. pending-added d J s ∙ same d in
     course-like slots J (added J s) q
@@ -219,7 +237,8 @@ none_of : (o : Option (ℕ × ℕ)) → is_some o ≡ false → o ≡ None
 none_of None free = refl
 none_of (Some begun) free = cc
 
-module _ (slots : List Slot) (J : List Entry) (p q : ℕ) (answer : Question → ℕ) (differ : p ≢ q) (asked : (own slots J q).stock.asked ≡ length (answers q J)) (course : IsOnCourse slots J q) where
+module _ (slots : List Slot) (J : List Entry) (p q : ℕ) (answer : Question → ℕ) (differ : p ≢ q) (asked : (own slots J q).stock.asked ≡ length (answers q J))
+    (course : IsOnCourse slots J q) where
   abbrev noting : Effect → Step
   noting e = Obeys p (note_of_outcome (done_by answer e (own slots J p)))
 
@@ -238,13 +257,15 @@ module _ (slots : List Slot) (J : List Entry) (p q : ℕ) (answer : Question →
   theirs d k e is =
       ap (flight_of slots (added J (noting e)) q d) is ∙ ap (λ (b : Bool). cond b (flight_from slots (added J (noting e)) q d k) None) other
 
-  pub flights-beside : (mine : List ℕ) (e : Effect) → HidesNone (is_pending_after slots J p) (effect_needs mine e) → (d : ℕ) → flights_of slots (added J (noting e)) q d ≡ flights_of slots J q d
+  pub flights-beside : (mine : List ℕ) (e : Effect) → HidesNone (is_pending_after slots J p) (effect_needs mine e) → (d : ℕ)
+      → flights_of slots (added J (noting e)) q d ≡ flights_of slots J q d
   flights-beside mine (Starting x o first last after) none d =
       ⊎_elim
       (λ (same : x ≡ d).
       let k : ℕ = (own slots J p).registers.ran + 1 in
       let free : pending_in d J ≡ None = none_of (pending_in d J) (ap (λ (y : ℕ). is_some (pending_in y J)) (sym same) ∙ (or_parts _ _ none).0) in
-      theirs d k (Starting x o first last after) (pending-beside d (Starting x o first last after) ∙ ap (λ (b : Bool). cond b (begun_at p k) (pending_in d J)) (eq-eqb x d same))
+      theirs d k (Starting x o first last after) (pending-beside d (Starting x o first last after)
+      ∙ ap (λ (b : Bool). cond b (begun_at p k) (pending_in d J)) (eq-eqb x d same))
       ∙ sym (none-there slots J q asked course.past d free))
       (λ (ne : x ≢ d).
       flight-stays slots J q asked course.past (noting (Starting x o first last after)) d
@@ -266,7 +287,8 @@ module _ (slots : List Slot) (J : List Entry) (p q : ℕ) (answer : Question →
       at false = course.past d
   past-beside d e = course.past d
 
-  mine-beside : (mine : List ℕ) (e : Effect) → HidesNone (is_pending_after slots J p) (effect_needs mine e) → (d : ℕ) → is_of q (behind d e) ≡ is_of q (pending_in d J)
+  mine-beside : (mine : List ℕ) (e : Effect) → HidesNone (is_pending_after slots J p) (effect_needs mine e) → (d : ℕ)
+      → is_of q (behind d e) ≡ is_of q (pending_in d J)
   mine-beside mine (Starting x o first last after) none d =
       ⊎_elim
       (λ (same : x ≡ d).
@@ -280,7 +302,8 @@ module _ (slots : List Slot) (J : List Entry) (p q : ℕ) (answer : Question →
 
   pub own-beside : (e : Effect) → own slots (added J (noting e)) q ≡ own slots J q
   own-beside e =
-      own-same slots J (noting e) q (ap (λ (b : Bool). cond b 1 0) other) (ap (λ (b : Bool). cond b (answer_in_note (note_of_outcome (done_by answer e (own slots J p)))) []) other)
+      own-same slots J (noting e) q (ap (λ (b : Bool). cond b 1 0) other)
+      (ap (λ (b : Bool). cond b (answer_in_note (note_of_outcome (done_by answer e (own slots J p)))) []) other)
 
   pub course-beside : (mine : List ℕ) (e : Effect) → HidesNone (is_pending_after slots J p) (effect_needs mine e) → IsOnCourse slots (added J (noting e)) q
   course-beside mine e none =
@@ -300,7 +323,8 @@ with_none e d flights none =
     (λ (ne : d ≢ e). with_flight_other e d None flights ne ∙ none)
     (cases_eq d e)
 
-mine_ended : (p e d : ℕ) (flights : ℕ → Option Flight) (o : Option (ℕ × ℕ)) → is_some (flights d) ≡ is_of p o → is_some (with_flight e None flights d) ≡ is_of p (cond (eqb e d) None o)
+mine_ended : (p e d : ℕ) (flights : ℕ → Option Flight) (o : Option (ℕ × ℕ)) → is_some (flights d) ≡ is_of p o
+    → is_some (with_flight e None flights d) ≡ is_of p (cond (eqb e d) None o)
 mine_ended p e d flights o mine =
     ⊎_elim
     (λ (same : d ≡ e). ap is_some (with_flight_is d e None flights same) ∙ sym (ap (λ (b : Bool). is_of p (cond b None o)) (eq-eqb e d (sym same))))
@@ -315,11 +339,13 @@ further_some e n (Some f) = refl
 mine_moved : (e n d : ℕ) (flights : ℕ → Option Flight) → is_some (with_flight e (further e n (flights e)) flights d) ≡ is_some (flights d)
 mine_moved e n d flights =
     ⊎_elim
-    (λ (same : d ≡ e). ap is_some (with_flight_is d e (further e n (flights e)) flights same) ∙ further_some e n (flights e) ∙ ap (λ (x : ℕ). is_some (flights x)) (sym same))
+    (λ (same : d ≡ e). ap is_some (with_flight_is d e (further e n (flights e)) flights same) ∙ further_some e n (flights e)
+    ∙ ap (λ (x : ℕ). is_some (flights x)) (sym same))
     (λ (ne : d ≢ e). ap is_some (with_flight_other e d (further e n (flights e)) flights ne))
     (cases_eq d e)
 
-flying_further : (e n : ℕ) (flights : ℕ → Option Flight) (s : State) (f : Option Flight) → flights e ≡ f → AreFlying flights s → AreFlying (with_flight e (further e n f) flights) s
+flying_further : (e n : ℕ) (flights : ℕ → Option Flight) (s : State) (f : Option Flight) → flights e ≡ f → AreFlying flights s
+    → AreFlying (with_flight e (further e n f) flights) s
 flying_further e n flights s None this flying = flying_ended flights s e flying
 flying_further e n flights s (Some f) this flying = flying_moved flights s e (min (f.moved + n) (move_count e f)) f this (omega arith) flying
 
@@ -347,7 +373,8 @@ module _ (slots : List Slot) (J : List Entry) (p : ℕ) (asked : (own slots J p)
   pub course-move : (e n : ℕ) → IsOnCourse slots (added J (Moves e n)) p
   course-move e n =
       let same : own slots (added J (Moves e n)) p ≡ own slots J p = own-same slots J (Moves e n) p refl refl in
-      let flights : flights_of slots (added J (Moves e n)) p ≡ with_flight e (further e n (flights_of slots J p e)) (flights_of slots J p) = flights-move slots J p asked course.past e n in
+      let flights : flights_of slots (added J (Moves e n)) p ≡ with_flight e (further e n (flights_of slots J p e)) (flights_of slots J p) =
+      flights-move slots J p asked course.past e n in
       let count : ran p (added J (Moves e n)) ≡ ran p J = ran-added p J (Moves e n) ∙ omega arith in
       record {
         past = λ d. subst₂ (IsPast p) (sym count) (sym (pending-added d J (Moves e n))) (course.past d);
@@ -356,23 +383,28 @@ module _ (slots : List Slot) (J : List Entry) (p : ℕ) (asked : (own slots J p)
             ∙ mine_moved e n d (flights_of slots J p)
             ∙ course.mine d
             ∙ sym (ap (is_of p) (pending-added d J (Moves e n)));
-        flying = subst₂ AreFlying (sym flights) (sym same) (flying_further e n (flights_of slots J p) (own slots J p) (flights_of slots J p e) refl course.flying);
+        flying = subst₂ AreFlying (sym flights) (sym same)
+            (flying_further e n (flights_of slots J p) (own slots J p) (flights_of slots J p e) refl course.flying);
         over = λ dead d.
             let was : is_live (own slots J p).registers.state ≡ false = sym (ap (λ (s : State). is_live s.registers.state) same) ∙ dead in
             ap (λ (fs : ℕ → Option Flight). fs d) flights ∙ none_further e n d (flights_of slots J p) (course.over was e) (course.over was d);
       }
 
 -- ---- each step
-course-turn : (slots : List Slot) (J : List Entry) (p : ℕ) (answer : Question → ℕ) → is_live (own slots J p).registers.state ≡ true → HidesNone (is_pending_after slots J p) (needs (own slots J p) (mine_after J p)) → ((q : ℕ) → IsKept slots J q) → ((q : ℕ) → IsOnCourse slots J q) → (q : ℕ) → IsOnCourse slots (added J (Obeys p (note_of (own slots J p) answer))) q
+course-turn : (slots : List Slot) (J : List Entry) (p : ℕ) (answer : Question → ℕ) → is_live (own slots J p).registers.state ≡ true
+    → HidesNone (is_pending_after slots J p) (needs (own slots J p) (mine_after J p)) → ((q : ℕ) → IsKept slots J q) → ((q : ℕ) → IsOnCourse slots J q)
+    → (q : ℕ) → IsOnCourse slots (added J (Obeys p (note_of (own slots J p) answer))) q
 course-turn slots J p answer live none kept course q =
     ⊎_elim
-    (λ (same : p ≡ q). subst (IsOnCourse slots (added J (Obeys p (note_of (own slots J p) answer)))) same (course-obeys slots J p answer (kept p).asked live (course p) none))
+    (λ (same : p ≡ q). subst (IsOnCourse slots (added J (Obeys p (note_of (own slots J p) answer)))) same
+    (course-obeys slots J p answer (kept p).asked live (course p) none))
     (λ (differ : p ≢ q).
     course-beside slots J p q answer differ (kept q).asked (course q) (mine_after J p) (next_effect (own slots J p))
     (effect-free (is_pending_after slots J p) (mine_after J p) (own slots J p) none))
     (cases_eq p q)
 
-course-added : (slots : List Slot) (J : List Entry) (s : Step) → rules.Meets (lone_dispatched slots J) (any_answer slots J) J s → ((q : ℕ) → IsKept slots J q) → ((q : ℕ) → IsOnCourse slots J q) → (q : ℕ) → IsOnCourse slots (added J s) q
+course-added : (slots : List Slot) (J : List Entry) (s : Step) → rules.Meets (lone_dispatched slots J) (any_answer slots J) J s → ((q : ℕ) → IsKept slots J q)
+    → ((q : ℕ) → IsOnCourse slots J q) → (q : ℕ) → IsOnCourse slots (added J s) q
 course-added slots J (Obeys p note) m kept course q =
     let live : is_live (own slots J p).registers.state ≡ true = (kept p).alive ∙ next_on (lone_world slots J) slots J p m.0 in
     rw m.2.1 (course-turn slots J p (λ _. m.2.0) live (free slots J p (free_need (first_need (lone_world slots J) p) m.1)) kept course q)

@@ -8,7 +8,8 @@ use Rattle.kdf_processor.proofs.Words.{next_told}
 use Rattle.kdf_theory.specs.Asked.{HasAsked, IsHeard}
 
 -- what was heard answers the word
-pub heard_so : (answers : ℕ → ℕ → Type 0) (asked heard : Option ℕ) → HasAsked answers asked heard → IfSome asked (λ word. (word < 2 ^ 48) × answers word (unwrap_or heard 0))
+pub heard_so : (answers : ℕ → ℕ → Type 0) (asked heard : Option ℕ) → HasAsked answers asked heard
+    → IfSome asked (λ word. (word < 2 ^ 48) × answers word (unwrap_or heard 0))
 heard_so answers (Some word) (Some answer) has = has
 heard_so answers (Some word) None has = absurd has
 heard_so answers None heard has = tt
@@ -24,7 +25,8 @@ none_if (Some word) is = cc
 pub has_none : (answers : ℕ → ℕ → Type 0) (asked : Option ℕ) → asked ≡ None → HasAsked answers asked None
 has_none answers asked is = subst (λ o. HasAsked answers o None) (sym is) tt
 
-pub has_answer : (answers : ℕ → ℕ → Type 0) (asked : Option ℕ) (word answer : ℕ) → asked ≡ Some word → word < 2 ^ 48 → answers word answer → HasAsked answers asked (Some answer)
+pub has_answer : (answers : ℕ → ℕ → Type 0) (asked : Option ℕ) (word answer : ℕ) → asked ≡ Some word → word < 2 ^ 48 → answers word answer
+    → HasAsked answers asked (Some answer)
 has_answer answers asked word answer is small has = subst (λ o. HasAsked answers o (Some answer)) (sym is) (small, has)
 
 -- a program that isn't served asks nothing

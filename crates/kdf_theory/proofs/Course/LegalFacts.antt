@@ -6,7 +6,8 @@ use Rattle.kdf_processor.specs.Lone.{is_live}
 use Rattle.kdf_transfer.specs.Slots.{Slot}
 use Rattle.kdf_journal.specs.declared.entry.Entry.{Entry}
 use Rattle.kdf_journal.specs.Counts.{answers, over}
-use Rattle.kdf_journal.specs.Steps.{Note, Quiet, Began, Answered, Took, Gave, Failed, Finished, Step, Obeys, Holds, Waits, Moves, Ends, Sets, Swaps, added, journal_of, steps}
+use Rattle.kdf_journal.specs.Steps.{Note, Quiet, Began, Answered, Took, Gave, Failed, Finished, Step, Obeys, Holds, Waits, Moves, Ends, Sets, Swaps, added}
+use Rattle.kdf_journal.specs.Steps.{journal_of, steps}
 use Rattle.kdf_journal.proofs.Added.{ran_by, answers_by, answers-added, ends_by, over-added}
 use Rattle.kdf_theory.specs.ByJournal.{own, lone_world}
 use Rattle.kdf_course.specs.Legal as course
@@ -40,13 +41,15 @@ ends_not p q (Failed kind) apart = apart
 ends_not p q Finished apart = apart
 
 -- a program that a step neither runs nor answers stays
-kept-stays : (slots : List Slot) (J : List Entry) (s : Step) (q : ℕ) → ran_by q s ≡ 0 → answers_by q s ≡ [] → ends_by q s ≡ false → IsKept slots J q → IsKept slots (added J s) q
+kept-stays : (slots : List Slot) (J : List Entry) (s : Step) (q : ℕ) → ran_by q s ≡ 0 → answers_by q s ≡ [] → ends_by q s ≡ false → IsKept slots J q
+    → IsKept slots (added J s) q
 kept-stays slots J s q none silent on kept = record {
   alive = rw (own-same slots J s q none silent, over-added q J s, on) kept.alive;
   asked = rw (own-same slots J s q none silent, answers-added q J s, silent, append-nil) kept.asked;
 }
 
-kept-obeys : (slots : List Slot) (J : List Entry) (p : ℕ) (answer : Question → ℕ) → not (over p J) ≡ true → IsKept slots J p → IsKept slots (added J (Obeys p (note_of (own slots J p) answer))) p
+kept-obeys : (slots : List Slot) (J : List Entry) (p : ℕ) (answer : Question → ℕ) → not (over p J) ≡ true → IsKept slots J p
+    → IsKept slots (added J (Obeys p (note_of (own slots J p) answer))) p
 kept-obeys slots J p answer on kept =
     let live : is_live (own slots J p).registers.state ≡ true = kept.alive ∙ on in
     let note : Note = note_of (own slots J p) answer in
@@ -55,7 +58,8 @@ kept-obeys slots J p answer on kept =
       asked = asked-obeys slots J p answer kept.asked live;
     }
 
-kept-turn : (slots : List Slot) (J : List Entry) (p : ℕ) (answer : Question → ℕ) → not (over p J) ≡ true → ((q : ℕ) → IsKept slots J q) → (q : ℕ) → IsKept slots (added J (Obeys p (note_of (own slots J p) answer))) q
+kept-turn : (slots : List Slot) (J : List Entry) (p : ℕ) (answer : Question → ℕ) → not (over p J) ≡ true → ((q : ℕ) → IsKept slots J q) → (q : ℕ)
+    → IsKept slots (added J (Obeys p (note_of (own slots J p) answer))) q
 kept-turn slots J p answer on kept q =
     let note : Note = note_of (own slots J p) answer in
     elim (cases_eq p q) [
@@ -64,7 +68,8 @@ kept-turn slots J p answer on kept q =
           kept-stays slots J (Obeys p note) q (rw other refl) (rw other refl) (ends_not p q note other) (kept q)
     ]
 
-kept-added : (slots : List Slot) (J : List Entry) (s : Step) → course.Meets (lone_dispatched slots J) (any_answer slots J) J s → ((q : ℕ) → IsKept slots J q) → (q : ℕ) → IsKept slots (added J s) q
+kept-added : (slots : List Slot) (J : List Entry) (s : Step) → course.Meets (lone_dispatched slots J) (any_answer slots J) J s → ((q : ℕ) → IsKept slots J q)
+    → (q : ℕ) → IsKept slots (added J s) q
 kept-added slots J (Obeys p note) m kept q = rw m.2.1 (kept-turn slots J p (λ _. m.2.0) (next_on (lone_world slots J) slots J p m.0) kept q)
 kept-added slots J (Holds p by) m kept q = kept-stays slots J (Holds p by) q refl refl refl (kept q)
 kept-added slots J Waits m kept q = kept-stays slots J Waits q refl refl refl (kept q)

@@ -22,7 +22,8 @@ goes_on (Gave d) = true
 goes_on (Failed kind) = false
 goes_on Finished = false
 
-life_done : (answer : Question → ℕ) (e : Effect) (s : State) → is_live s.registers.state ≡ true → is_live (perform answer e s).registers.state ≡ goes_on (note_of_outcome (done_by answer e s))
+life_done : (answer : Question → ℕ) (e : Effect) (s : State) → is_live s.registers.state ≡ true
+    → is_live (perform answer e s).registers.state ≡ goes_on (note_of_outcome (done_by answer e s))
 life_done answer (Failing kind) s live = refl
 life_done answer (Finishing after) s live = refl
 life_done answer (Asking (FreeOf kind) after) s live = live
@@ -48,13 +49,15 @@ answers_noted s answer = answers_done answer (next_effect s) s
 behind : (given : List ℕ) (n v : ℕ) → n ≡ length given → get_or (given ++ v ∷ []) n 0 ≡ v
 behind given n v last = rw last (get_or-append_seam given v [] 0)
 
-told_done : (answer : Question → ℕ) (given : List ℕ) (n : ℕ) (e : Effect) (s : State) → n ≡ length given → IsSameAnswer (λ _. get_or (given ++ answer_in_note (note_of_outcome (done_by answer e s))) n 0) answer (question_of e)
+told_done : (answer : Question → ℕ) (given : List ℕ) (n : ℕ) (e : Effect) (s : State) → n ≡ length given
+    → IsSameAnswer (λ _. get_or (given ++ answer_in_note (note_of_outcome (done_by answer e s))) n 0) answer (question_of e)
 told_done answer given n (Asking (FreeOf kind) after) s last = behind given n (answer (FreeOf kind)) last
 told_done answer given n (Asking question after) s last = behind given n (answer question) last
 told_done answer given n e s last = tt
 
 -- after the answers that were given, the note tells the one that the order takes
-pub told_next : (answer : Question → ℕ) (given : List ℕ) (s : State) → s.stock.asked ≡ length given → IsSameAnswer (λ _. get_or (given ++ answer_in_note (note_of s answer)) s.stock.asked 0) answer (question_of (next_effect s))
+pub told_next : (answer : Question → ℕ) (given : List ℕ) (s : State) → s.stock.asked ≡ length given
+    → IsSameAnswer (λ _. get_or (given ++ answer_in_note (note_of s answer)) s.stock.asked 0) answer (question_of (next_effect s))
 told_next answer given s last = told_done answer given s.stock.asked (next_effect s) s last
 
 same_at : (answer other : Question → ℕ) → ((q : Question) → answer q ≡ other q) → (o : Option Question) → IsSameAnswer answer other o

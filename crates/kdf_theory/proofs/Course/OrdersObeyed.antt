@@ -21,7 +21,8 @@ use Rattle.kdf_theory.proofs.Course.FlightsOnCourse.{effect-free, flights-beside
 use Rattle.kdf_theory.proofs.Course.OwnSteps.{own-obeys}
 use Rattle.kdf_theory.proofs.Course.Worlds.{next_on}
 
-module _ (slots : List Slot) (J : List Entry) (p : ℕ) (heard : ℕ) (note : Note) (l : IsLegal slots J) (m : Meets (lone_world slots J) slots J heard (Obeys p note)) where
+module _ (slots : List Slot) (J : List Entry) (p : ℕ) (heard : ℕ) (note : Note) (l : IsLegal slots J)
+    (m : Meets (lone_world slots J) slots J heard (Obeys p note)) where
   abbrev answer : Question → ℕ
   answer = truth (lone_world slots J) J p heard
 
@@ -34,7 +35,8 @@ module _ (slots : List Slot) (J : List Entry) (p : ℕ) (heard : ℕ) (note : No
   pub obeys-own : own slots (added J (Obeys p note)) p ≡ row (own slots J p) answer
   obeys-own = rw m.2 (own-obeys slots J p answer (legal_asked slots J l p) live)
 
-  pub obeys-flights : AreSlots slots → flights_of slots (added J (Obeys p note)) p ≡ flights_after (flights_of slots J p) (own slots J p) (next_effect (own slots J p))
+  pub obeys-flights : AreSlots slots → flights_of slots (added J (Obeys p note)) p ≡ flights_after (flights_of slots J p) (own slots J p)
+      (next_effect (own slots J p))
   obeys-flights are =
       rw m.2 (flights-then slots J p answer (legal_asked slots J l p) live (legal-course slots J are l p) (free slots J p none_holds))
 
@@ -42,10 +44,12 @@ module _ (slots : List Slot) (J : List Entry) (p : ℕ) (heard : ℕ) (note : No
   obeys-seen are =
       rw m.2 (seen-then slots J p answer (legal_asked slots J l p) live (legal-course slots J are l p) (free slots J p none_holds))
 
-  pub obeys-others : AreSlots slots → (q : ℕ) → p ≢ q → (own slots (added J (Obeys p note)) q ≡ own slots J q) × (flights_of slots (added J (Obeys p note)) q ≡ flights_of slots J q)
+  pub obeys-others : AreSlots slots → (q : ℕ) → p ≢ q → (own slots (added J (Obeys p note)) q ≡ own slots J q)
+      × (flights_of slots (added J (Obeys p note)) q ≡ flights_of slots J q)
   obeys-others are q differ =
       let none = effect-free (is_pending_after slots J p) (mine_after J p) (own slots J p) (free slots J p none_holds) in
       rw m.2 (
         own-beside slots J p q answer differ (legal_asked slots J l q) (legal-course slots J are l q) (next_effect (own slots J p)),
-        fun_ext (flights-beside slots J p q answer differ (legal_asked slots J l q) (legal-course slots J are l q) (mine_after J p) (next_effect (own slots J p)) none),
+        fun_ext (flights-beside slots J p q answer differ (legal_asked slots J l q) (legal-course slots J are l q) (mine_after J p)
+            (next_effect (own slots J p)) none),
       )

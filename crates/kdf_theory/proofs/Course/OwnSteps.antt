@@ -53,7 +53,8 @@ pub own-same : (slots : List Slot) (J : List Entry) (s : Step) (q : ℕ) → ran
 unfolding own
 own-same slots J s q r a = rw (ran-added q J s, answers-added q J s, r, a, add-zero, append-nil)
 
-own-more : (slots : List Slot) (J : List Entry) (s : Step) (q : ℕ) (given : List ℕ) → ran_by q s ≡ 1 → answers_by q s ≡ given → (own slots J q).stock.asked ≤ length (answers q J)
+own-more : (slots : List Slot) (J : List Entry) (s : Step) (q : ℕ) (given : List ℕ) → ran_by q s ≡ 1 → answers_by q s ≡ given
+    → (own slots J q).stock.asked ≤ length (answers q J)
     → own slots (added J s) q ≡ lone_step (answers q J ++ given) (own slots J q)
 unfolding own
 own-more slots J s q given r a enough =
@@ -62,7 +63,8 @@ own-more slots J s q given r a enough =
     ∙ ap (lone_step (answers q J ++ given)) (longer (start slots q) (answers q J) given (ran q J) enough (ran q J) (omega arith)))
 
 -- the program that obeys makes a row of its next order, and takes the answer that its note tells
-pub own-obeys : (slots : List Slot) (J : List Entry) (p : ℕ) (answer : Question → ℕ) → (own slots J p).stock.asked ≡ length (answers p J) → is_live (own slots J p).registers.state ≡ true
+pub own-obeys : (slots : List Slot) (J : List Entry) (p : ℕ) (answer : Question → ℕ) → (own slots J p).stock.asked ≡ length (answers p J)
+    → is_live (own slots J p).registers.state ≡ true
     → own slots (added J (Obeys p (note_of (own slots J p) answer))) p ≡ row (own slots J p) answer
 own-obeys slots J p answer asked live =
     let same : eqb p p ≡ true = eq-eqb p p refl in
@@ -73,7 +75,8 @@ own-obeys slots J p answer asked live =
     ∙ row_same (next_answer (answers p J ++ given) s) answer s (told_next answer (answers p J) s asked))
 
 -- and it has taken all of its answers
-pub asked-obeys : (slots : List Slot) (J : List Entry) (p : ℕ) (answer : Question → ℕ) → (own slots J p).stock.asked ≡ length (answers p J) → is_live (own slots J p).registers.state ≡ true
+pub asked-obeys : (slots : List Slot) (J : List Entry) (p : ℕ) (answer : Question → ℕ) → (own slots J p).stock.asked ≡ length (answers p J)
+    → is_live (own slots J p).registers.state ≡ true
     → (own slots (added J (Obeys p (note_of (own slots J p) answer))) p).stock.asked ≡ length (answers p (added J (Obeys p (note_of (own slots J p) answer))))
 asked-obeys slots J p answer asked live =
     let same : eqb p p ≡ true = eq-eqb p p refl in

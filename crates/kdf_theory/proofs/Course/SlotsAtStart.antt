@@ -23,7 +23,8 @@ found_one false s rest this others = others
 
 found : (slots : List Slot) (p : ℕ) → All IsSlot slots → IfSlot (find (λ (s : Slot). eqb s.p p) slots)
 found [] p each = tt
-found (s ∷ slots) p each = found_one (eqb s.p p) s (find (λ (t : Slot). eqb t.p p) slots) (All-head IsSlot s slots each) (found slots p (All-tail IsSlot s slots each))
+found (s ∷ slots) p each = found_one (eqb s.p p) s (find (λ (t : Slot). eqb t.p p) slots) (All-head IsSlot s slots each)
+    (found slots p (All-tail IsSlot s slots each))
 
 sized_at : (o : Option Slot) → IfSlot o → length (start_of o).stock.store ≡ (start_of o).stock.claims.size
 sized_at None is = refl

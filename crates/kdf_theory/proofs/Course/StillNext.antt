@@ -28,7 +28,8 @@ use Rattle.kdf_theory.proofs.Course.FlightsOnCourse.{flights-quiet, legal-course
 use Rattle.kdf_theory.proofs.Course.Worlds.{next_on, next_slot}
 
 -- what is found first is found still, where it passes still and all others do as they did
-first_by : (f g : ℕ → Bool) (p : ℕ) → ((q : ℕ) → p ≢ q → g q ≡ f q) → g p ≡ true → (q : ℕ) (ks : List ℕ) (b : Bool) → f q ≡ b → (find f ks ≡ Some p → find g ks ≡ Some p) → cond b (Some q) (find f ks) ≡ Some p → find g (q ∷ ks) ≡ Some p
+first_by : (f g : ℕ → Bool) (p : ℕ) → ((q : ℕ) → p ≢ q → g q ≡ f q) → g p ≡ true → (q : ℕ) (ks : List ℕ) (b : Bool) → f q ≡ b
+    → (find f ks ≡ Some p → find g ks ≡ Some p) → cond b (Some q) (find f ks) ≡ Some p → find g (q ∷ ks) ≡ Some p
 first_by f g p others this q ks true is rest found =
     let same : q ≡ p = cc in
     ap (λ b. cond b (Some q) (find g ks)) (ap g same ∙ this) ∙ ap Some same
@@ -50,7 +51,8 @@ module _ (slots : List Slot) (J : List Entry) (p : ℕ) (are : AreSlots slots) (
   unfolding free_after
   same_free q kind =
       ap (λ (f : ℕ → Bool). find f (range_with_len 0 device_count))
-      (fun_ext (λ (d : ℕ). ap (λ (h : Option ℕ). is_kind kind (pool_kind_at (start slots q).stock.claims d) && not (is_some h)) (holder-quiet d J (Obeys p Quiet) refl (λ r. refl))))
+      (fun_ext (λ (d : ℕ). ap (λ (h : Option ℕ). is_kind kind (pool_kind_at (start slots q).stock.claims d) && not (is_some h))
+      (holder-quiet d J (Obeys p Quiet) refl (λ r. refl))))
 
   -- what was pending is, and no more
   same_pending : (q : ℕ) (need : Need) → is_pending_after slots K q need ≡ is_pending_after slots J q need

@@ -14,11 +14,13 @@ use Rattle.kdf_course.specs.World.{can_go, lives, stands}
 use Rattle.kdf_theory.specs.Next.{dispatched, next, there_in}
 
 -- which program is next doesn't hang on the states
-pub next-world : (states others : ℕ → State) (slots : List Slot) (J : List Entry) → next (world_after slots J states) slots J ≡ next (world_after slots J others) slots J
+pub next-world : (states others : ℕ → State) (slots : List Slot) (J : List Entry)
+    → next (world_after slots J states) slots J ≡ next (world_after slots J others) slots J
 unfolding course.next can_go
 next-world states others slots J = refl
 
-find_step : {X : Type 0} (f : X → Bool) (xs : List X) (x y : X) (b : Bool) → f y ≡ b → (find f xs ≡ Some x → f x ≡ true) → cond b (Some y) (find f xs) ≡ Some x → f x ≡ true
+find_step : {X : Type 0} (f : X → Bool) (xs : List X) (x y : X) (b : Bool) → f y ≡ b → (find f xs ≡ Some x → f x ≡ true) → cond b (Some y) (find f xs) ≡ Some x
+    → f x ≡ true
 find_step f xs x y true t rest s = let same : y ≡ x = cc in rw (← same) t
 find_step f xs x y false t rest s = rest s
 
@@ -28,7 +30,8 @@ find_true f (y ∷ xs) x e = find_step f xs x y (f y) refl (find_true f xs x) e
 
 next_lives : (w : World) (slots : List Slot) (J : List Entry) (p : ℕ) → next w slots J ≡ Some p → lives (there_in slots) J p ≡ true
 unfolding course.next can_go
-next_lives w slots J p n = (and_parts (lives (there_in slots) J p) (not (stands (dispatched slots w) p (last_hold p J))) (find_true (can_go (dispatched slots w) J) (priorities J) p n)).0
+next_lives w slots J p n = (and_parts (lives (there_in slots) J p) (not (stands (dispatched slots w) p (last_hold p J)))
+    (find_true (can_go (dispatched slots w) J) (priorities J) p n)).0
 
 -- the next program hasn't ended or failed
 pub next_on : (w : World) (slots : List Slot) (J : List Entry) (p : ℕ) → next w slots J ≡ Some p → not (over p J) ≡ true

@@ -24,16 +24,19 @@ set_true (y ∷ ys) (suc x) zero is = is
 set_true (y ∷ ys) (suc x) (suc d) is = set_true ys x d is
 
 -- with other claims it stays such if its own mark stays
-marked : (c : Claims) (claimed : List Bool) (d : ℕ) (k : Kind) → get_or claimed d false ≡ true → is_kind k (claim c d) ≡ true → is_kind k (claim (record c { claimed = claimed }) d) ≡ true
+marked : (c : Claims) (claimed : List Bool) (d : ℕ) (k : Kind) → get_or claimed d false ≡ true → is_kind k (claim c d) ≡ true
+    → is_kind k (claim (record c { claimed = claimed }) d) ≡ true
 marked c claimed d k mark is =
     ap (λ b. is_kind k (cond (ltb d device_limit && b) (kind_at c d) None)) (mark ∙ sym (claim_parts c d k is).1) ∙ is
 
-module _ (hidden : Need → Bool) (mine : List ℕ) (answer : Question → ℕ) (s : State) (d : ℕ) (k : Kind) (is : is_kind k (claim s.stock.claims d) ≡ true) (out : hidden (Device d) ≡ true) where
+module _ (hidden : Need → Bool) (mine : List ℕ) (answer : Question → ℕ) (s : State) (d : ℕ) (k : Kind) (is : is_kind k (claim s.stock.claims d) ≡ true)
+    (out : hidden (Device d) ≡ true) where
   -- another device is given back
   returned : (x : ℕ) → hidden (Device x) ≡ false → is_kind k (claim (record s.stock.claims { claimed = set s.stock.claims.claimed x false }) d) ≡ true
   returned x free =
       let ne : d ≢ x = λ e. false≢true (sym free ∙ (ap (λ y. hidden (Device y)) (sym e) ∙ out)) in
-      marked s.stock.claims (set s.stock.claims.claimed x false) d k (get_or-set_other s.stock.claims.claimed x d false false ne ∙ (claim_parts s.stock.claims d k is).1) is
+      marked s.stock.claims (set s.stock.claims.claimed x false) d k (get_or-set_other s.stock.claims.claimed x d false false ne
+      ∙ (claim_parts s.stock.claims d k is).1) is
 
   pub claimed_through : (e : Effect) → HidesNone hidden (effect_needs mine e) → is_kind k (claim (perform answer e s).stock.claims d) ≡ true
   claimed_through (Starting x o first last after) none =

@@ -13,7 +13,8 @@ use Rattle.kdf_transfer.specs.declared.test.Test.TheVariants.{Flag, Start, Mark}
 use Rattle.kdf_transfer.specs.Devices.{is_kind}
 use Rattle.kdf_processor.specs.Claims.{claim, is_claimed, may_take}
 use Rattle.kdf_processor.specs.State.{Claims, is_pooled, own_fixture_at}
-use Rattle.kdf_processor.specs.Effect.{Change, Refused, Going, of_change, Effect, Failing, Ending, Changing, Fetching, Keeping, Testing, Starting, Asking, IsBusy, IsOut, Time, Claiming, Returning, Spooling, FreeOf, OfService}
+use Rattle.kdf_processor.specs.Effect.{Change, Refused, Going, of_change, Effect, Failing, Ending, Changing, Fetching, Keeping, Testing, Starting, Asking}
+use Rattle.kdf_processor.specs.Effect.{IsBusy, IsOut, Time, Claiming, Returning, Spooling, FreeOf, OfService}
 use Rattle.kdf_processor.specs.Needs.{order_at, effect_or_liv, effect_at}
 use Rattle.kdf_processor.specs.Table.{is_area, guarded, effect, out_effect, transfer_of}
 use Rattle.kdf_processor.specs.View.{View, first_pending, is_pending}
@@ -73,7 +74,8 @@ change_lawful c (Going after) = tt
 
 effect_lawful : (c : Claims) (r : Registers) (o : Order) → IsLawful c (effect c r o)
 effect_lawful c r =
-    each_effect c r (IsFit c) (IsLawful c) (guarded_lawful c) (change_lawful c) (top_fit c r.nest (out_effect c r) (λ n below. out_fit c r n below)) (indirect_fit c r) (direct_fit c r)
+    each_effect c r (IsFit c) (IsLawful c) (guarded_lawful c) (change_lawful c) (top_fit c r.nest (out_effect c r) (λ n below. out_fit c r n below))
+    (indirect_fit c r) (direct_fit c r)
     (λ code q. starts_fit c r (triple_at r.q q) (transfer_of code (triple_at r.q q).m)) (λ b q. query_fit c r b (triple_at r.q q))
 
 or_liv_lawful : (c : Claims) (r : Registers) (o : Option Order) → IsLawful c (effect_or_liv c r o)

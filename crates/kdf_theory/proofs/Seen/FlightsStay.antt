@@ -1,5 +1,6 @@
 -- Transfers stay in flight through an order none of whose needs is pending, and so is one that it begins.
-use Rattle.std.proofs.Common.{◌≡◌, ◌≢◌, ℕ, zero, suc, ◌*◌, ◌/◌, ◌<◌, ◌≤◌, true, false, ◌&&◌, leb, List, [], length, map, Option, Some, None, is_some, cond, refl, sym, ap, ◌∙◌, subst, ⊎_elim, arith}
+use Rattle.std.proofs.Common.{◌≡◌, ◌≢◌, ℕ, zero, suc, ◌*◌, ◌/◌, ◌<◌, ◌≤◌, true, false, ◌&&◌, leb, List, [], length, map, Option, Some, None, is_some, cond}
+use Rattle.std.proofs.Common.{refl, sym, ap, ◌∙◌, subst, ⊎_elim, arith}
 use Rattle.std.specs.List.{list_any}
 use Rattle.std.proofs.lemmas.Bool.{or_parts, or_left, or_right, and_parts, cases_eq, false_from_ne_true, false≢true, leb-true}
 use Rattle.kdf_transfer.specs.AtOnce.{IsArea, has_area, kind_of}
@@ -35,7 +36,8 @@ touched_from (suc n) d g flights lt is =
 
 -- ---- those that are in flight
 
-module _ (flights : ℕ → Option Flight) (mine : List ℕ) (answer : Question → ℕ) (s : State) (e : Effect) (none : HidesNone (pending flights) (effect_needs mine e)) where
+module _ (flights : ℕ → Option Flight) (mine : List ℕ) (answer : Question → ℕ) (s : State) (e : Effect)
+    (none : HidesNone (pending flights) (effect_needs mine e)) where
   leaves : Leaves (pending flights) s (perform answer e s)
   leaves = perform_leaves (pending flights) mine answer e s none
 
@@ -52,7 +54,8 @@ module _ (flights : ℕ → Option Flight) (mine : List ℕ) (answer : Question 
             size = sym leaves.size ∙ h.size;
             area = λ has. subst (IsArea f.first f.last) leaves.size (h.area has);
             moved = h.moved;
-            words = λ a touched. leaves.words a (touched_from device_count d (group_of a) flights small (ap (λ g. touches g (group_of a)) is ∙ touched)) ∙ h.words a touched;
+            words = λ a touched. leaves.words a (touched_from device_count d (group_of a) flights small (ap (λ g. touches g (group_of a)) is ∙ touched))
+                ∙ h.words a touched;
             device = leaves.devices d (ap is_some is) ∙ h.device;
           }
 
@@ -79,7 +82,9 @@ address_of first last g rising low high =
     (cases_eq (first / 32) g)
 
 -- no transfer touches a group of an area that is not pending
-free_area : (flights : ℕ → Option Flight) (s : State) (o : TransferOrder) (first last e g : ℕ) → AreFlying flights s → (has_area o ≡ true → IsArea first last s.stock.claims.size) → list_any (pending flights) (map Group (order_groups o first last)) ≡ false → has_area o && (leb (first / 32) g && leb g (last / 32)) ≡ true → touches (flights e) g ≡ false
+free_area : (flights : ℕ → Option Flight) (s : State) (o : TransferOrder) (first last e g : ℕ) → AreFlying flights s
+    → (has_area o ≡ true → IsArea first last s.stock.claims.size) → list_any (pending flights) (map Group (order_groups o first last)) ≡ false
+    → has_area o && (leb (first / 32) g && leb g (last / 32)) ≡ true → touches (flights e) g ≡ false
 free_area flights s o first last e g flying area none is =
     let parts = and_parts _ _ is in
     let bounds = and_parts _ _ parts.1 in
@@ -88,10 +93,13 @@ free_area flights s o first last e g flying area none is =
     subst (λ h. touched_below device_count flights h ≡ false) there.3
     (area_apart (pending flights) first last there.0 there.1 there.2
     (subst (λ b. list_any (pending flights) (map Group (cond b (groups_of first last) [])) ≡ false) parts.0 none)) in
-    false_from_ne_true _ (λ touched. false≢true (sym free ∙ touched_from device_count e g flights (touching_small s e g (flights e) (flying.each e) touched) touched))
+    false_from_ne_true _ (λ touched. false≢true
+    (sym free ∙ touched_from device_count e g flights (touching_small s e g (flights e) (flying.each e) touched) touched))
 
 -- no two transfers touch a common group, also with one more
-more_apart : (flights : ℕ → Option Flight) (d : ℕ) (f : Flight) → ((d e g : ℕ) → d ≢ e → touches (flights d) g ≡ true → touches (flights e) g ≡ false) → ((e g : ℕ) → touches (Some f) g ≡ true → touches (flights e) g ≡ false) → (x y g : ℕ) → x ≢ y → touches (with_flight d (Some f) flights x) g ≡ true → touches (with_flight d (Some f) flights y) g ≡ false
+more_apart : (flights : ℕ → Option Flight) (d : ℕ) (f : Flight) → ((d e g : ℕ) → d ≢ e → touches (flights d) g ≡ true → touches (flights e) g ≡ false)
+    → ((e g : ℕ) → touches (Some f) g ≡ true → touches (flights e) g ≡ false) → (x y g : ℕ) → x ≢ y → touches (with_flight d (Some f) flights x) g ≡ true
+    → touches (with_flight d (Some f) flights y) g ≡ false
 more_apart flights d f old new x y g ne is =
     ⊎_elim
     (λ (at_x : x ≡ d).
@@ -109,7 +117,9 @@ more_apart flights d f old new x y g ne is =
     (cases_eq x d)
 
 module _ (flights : ℕ → Option Flight) (mine : List ℕ) (answer : Question → ℕ) (s : State) (flying : AreFlying flights s) where
-  also : (d : ℕ) (o : TransferOrder) (first last : ℕ) (after : Registers) → IsChecked s.stock.claims (Starting d o first last after) → HidesNone (pending flights) (effect_needs mine (Starting d o first last after)) → AreFlying (flights_after flights s (Starting d o first last after)) (perform answer (Starting d o first last after) s)
+  also : (d : ℕ) (o : TransferOrder) (first last : ℕ) (after : Registers) → IsChecked s.stock.claims (Starting d o first last after)
+      → HidesNone (pending flights) (effect_needs mine (Starting d o first last after)) → AreFlying (flights_after flights s (Starting d o first last after))
+      (perform answer (Starting d o first last after) s)
   also d o first last after checked none =
       record {
         sized = old.sized;
@@ -148,7 +158,8 @@ module _ (flights : ℕ → Option Flight) (mine : List ℕ) (answer : Question 
             device = refl;
           }
 
-  flying_any : (e : Effect) → IsChecked s.stock.claims e → HidesNone (pending flights) (effect_needs mine e) → AreFlying (flights_after flights s e) (perform answer e s)
+  flying_any : (e : Effect) → IsChecked s.stock.claims e → HidesNone (pending flights) (effect_needs mine e)
+      → AreFlying (flights_after flights s e) (perform answer e s)
   flying_any (Starting d o first last after) checked none = also d o first last after checked none
   flying_any e checked none = still_flying flights mine answer s e none flying
 

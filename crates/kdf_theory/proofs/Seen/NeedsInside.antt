@@ -1,7 +1,8 @@
 -- What the next order of a program needs lies in its store.
 use Rattle.std.specs.Prelude.{find, is_some}
 use Rattle.std.specs.List.{list_any, range_with_len}
-use Rattle.std.proofs.Common.{◌≡◌, ℕ, zero, suc, ◌+◌, ◌-◌, ◌*◌, ◌/◌, ◌<◌, Bool, true, false, ◌||◌, List, [], ◌∷◌, ◌++◌, map, Option, Some, None, cond, ltb, refl, sym, ap, ◌∙◌, arith}
+use Rattle.std.proofs.Common.{◌≡◌, ℕ, zero, suc, ◌+◌, ◌-◌, ◌*◌, ◌/◌, ◌<◌, Bool, true, false, ◌||◌, List, [], ◌∷◌, ◌++◌, map, Option, Some, None, cond, ltb}
+use Rattle.std.proofs.Common.{refl, sym, ap, ◌∙◌, arith}
 use Rattle.std.proofs.lemmas.Bool.{and_parts, leb-true, ltb-true}
 use Rattle.kdf_transfer.specs.AtOnce.{kind_of, has_area, IsArea}
 use Rattle.kdf_syllable.specs.declared.order.Order.{Order}
@@ -14,7 +15,8 @@ use Rattle.kdf_transfer.specs.declared.test.Test.TheVariants.{Flag, Start, Mark}
 use Rattle.kdf_transfer.specs.Devices.{is_kind}
 use Rattle.kdf_processor.specs.Claims.{claim, is_claimed}
 use Rattle.kdf_processor.specs.State.{Claims, State, word_at}
-use Rattle.kdf_processor.specs.Effect.{Change, Refused, Going, of_change, Effect, Failing, Ending, Changing, Fetching, Keeping, Testing, Starting, Asking, IsBusy, IsOut, Time, FreeOf, OfService, Claiming, Returning, Spooling}
+use Rattle.kdf_processor.specs.Effect.{Change, Refused, Going, of_change, Effect, Failing, Ending, Changing, Fetching, Keeping, Testing, Starting, Asking}
+use Rattle.kdf_processor.specs.Effect.{IsBusy, IsOut, Time, FreeOf, OfService, Claiming, Returning, Spooling}
 use Rattle.kdf_processor.specs.Needs.{count_at, effect_needs, effect_or_liv, fetch_needs, needs, next_effect, order_at, syllable_needs}
 use Rattle.kdf_processor.specs.Table.{is_area, guarded, effect, on}
 use Rattle.kdf_processor.specs.View.{groups_of}
@@ -56,20 +58,23 @@ guarded_inside c (Starting d o first last after) =
     (λ not. λ has. cc (sym has ∙ not)))
     (λ none. tt)
 guarded_inside c (Asking (IsBusy d) after) = by_test c.size (is_claimed c d) (Asking (IsBusy d) after) _ (λ is. tt) (λ not. tt)
-guarded_inside c (Asking (IsOut first last) after) = by_test c.size (is_area c.size first last) (Asking (IsOut first last) after) _ (λ is. area_parts c.size first last is) (λ not. tt)
+guarded_inside c (Asking (IsOut first last) after) = by_test c.size (is_area c.size first last) (Asking (IsOut first last) after) _
+    (λ is. area_parts c.size first last is) (λ not. tt)
 guarded_inside c (Asking Time after) = tt
 guarded_inside c (Asking (FreeOf kind) after) = tt
 guarded_inside c (Asking (OfService word) after) = tt
 guarded_inside c (Claiming d after) = tt
 guarded_inside c (Returning pooled d after) = by_test c.size (is_claimed c d) (Returning pooled d after) _ (λ is. tt) (λ not. tt)
-guarded_inside c (Spooling stream first last after) = by_test c.size (is_area c.size first last) (Spooling stream first last after) _ (λ is. area_parts c.size first last is) (λ not. tt)
+guarded_inside c (Spooling stream first last after) = by_test c.size (is_area c.size first last) (Spooling stream first last after) _
+    (λ is. area_parts c.size first last is) (λ not. tt)
 
 change_inside : (size : ℕ) (x : Change) → IsInside size (of_change x)
 change_inside size (Refused kind) = tt
 change_inside size (Going after) = tt
 
 effect_inside : (c : Claims) (r : Registers) (o : Order) → IsInside c.size (effect c r o)
-effect_inside c r = each_effect c r (λ _. Unit {0}) (IsInside c.size) (λ e _. guarded_inside c e) (change_inside c.size) tt (λ code k q. tt) (λ t u q a. tt) (λ code q. tt) (λ b q. tt)
+effect_inside c r = each_effect c r (λ _. Unit {0}) (IsInside c.size) (λ e _. guarded_inside c e) (change_inside c.size) tt (λ code k q. tt) (λ t u q a. tt)
+    (λ code q. tt) (λ b q. tt)
 
 or_liv_inside : (c : Claims) (r : Registers) (o : Option Order) → IsInside c.size (effect_or_liv c r o)
 or_liv_inside c r None = tt
@@ -153,7 +158,8 @@ find_near size f g same (n ∷ ns) near =
     ap (λ b. cond b (Some n) (find f ns)) (same n near.0) ∙ ap (cond (g n) (Some n)) (find_near size f g same ns near.1)
 
 -- and so are groups
-pub any_near : (size : ℕ) (f g : ℕ → Bool) → ((x : ℕ) → 32 * x < size → f x ≡ g x) → (xs : List ℕ) → AreNear size (map Group xs) → is_some (find f xs) ≡ list_any g xs
+pub any_near : (size : ℕ) (f g : ℕ → Bool) → ((x : ℕ) → 32 * x < size → f x ≡ g x) → (xs : List ℕ) → AreNear size (map Group xs)
+    → is_some (find f xs) ≡ list_any g xs
 any_near size f g same [] near = refl
 any_near size f g same (x ∷ xs) near =
     ap (λ b. is_some (cond b (Some x) (find f xs))) (same x near.0) ∙ at_test (g x) ∙ ap (λ b. g x || b) (any_near size f g same xs near.1)

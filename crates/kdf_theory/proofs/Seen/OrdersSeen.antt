@@ -1,6 +1,7 @@
 -- An order whose needs are not pending does the same to what is seen as to the lone state, also where it begins a
 -- transfer.
-use Rattle.std.proofs.Common.{◌≡◌, ◌≢◌, ◌⊎◌, inl, inr, ℕ, zero, suc, ◌<◌, ◌≤◌, Bool, true, false, List, [], length, get_or, map, Option, Some, None, is_some, cond, refl, sym, ap, ap₂, ◌∙◌, subst, ⊎_elim, arith}
+use Rattle.std.proofs.Common.{◌≡◌, ◌≢◌, ◌⊎◌, inl, inr, ℕ, zero, suc, ◌<◌, ◌≤◌, Bool, true, false, List, [], length, get_or, map, Option, Some, None, is_some}
+use Rattle.std.proofs.Common.{cond, refl, sym, ap, ap₂, ◌∙◌, subst, ⊎_elim, arith}
 use Rattle.std.specs.List.{list_any}
 use Rattle.std.proofs.lemmas.Bool.{or_parts, cases_Bool, cases_eq, false_from_ne_true, false≢true, eq-eqb, ne_eqb}
 use Rattle.std.proofs.lemmas.List.Folds.{list_any-append}
@@ -22,8 +23,10 @@ use Rattle.kdf_processor.proofs.RowFacts.{transferred_asked}
 use Rattle.kdf_transfer.specs.ByNumber.{device_count}
 use Rattle.kdf_theory.specs.Flights.{Flight, arrivals, beginning, flights_after, with_flight}
 use Rattle.kdf_theory.specs.Seen.{covers, word_before, seen_word, seen_device, seen, touched_below, pending, begun_by, begun_row}
-use Rattle.kdf_theory.proofs.Seen.WholeTransfers.{transferred_claims, transferred_spooled, transferred_stints, completed_other, completed_store, arrivals_outside}
-use Rattle.kdf_theory.proofs.Seen.SeenStates.{same_states, seen_word_at, seen_device_at, seen_size, seen_number, covers_touches, seen_apart, seen_agrees, perform_seen}
+use Rattle.kdf_theory.proofs.Seen.WholeTransfers.{transferred_claims, transferred_spooled, transferred_stints, completed_other, completed_store}
+use Rattle.kdf_theory.proofs.Seen.WholeTransfers.{arrivals_outside}
+use Rattle.kdf_theory.proofs.Seen.SeenStates.{same_states, seen_word_at, seen_device_at, seen_size, seen_number, covers_touches, seen_apart, seen_agrees}
+use Rattle.kdf_theory.proofs.Seen.SeenStates.{perform_seen}
 use Rattle.kdf_theory.proofs.Seen.TransfersChecked.{IsChecked, claim_small, next_checked}
 
 -- ---- one transfer more
@@ -42,22 +45,26 @@ pub look_apart : (d : ℕ) (f : Option Flight) (a w : ℕ) → covers d f a ≡ 
 look_apart d f a w free = ap (λ b. cond b (word_before f a) w) free
 
 -- transfers that make the same of a word
-pub seen_word_alike : (n : ℕ) (fs gs : ℕ → Option Flight) (a w : ℕ) → ((d x : ℕ) → look d (fs d) a x ≡ look d (gs d) a x) → seen_word n fs a w ≡ seen_word n gs a w
+pub seen_word_alike : (n : ℕ) (fs gs : ℕ → Option Flight) (a w : ℕ) → ((d x : ℕ) → look d (fs d) a x ≡ look d (gs d) a x)
+    → seen_word n fs a w ≡ seen_word n gs a w
 seen_word_alike zero fs gs a w same = refl
 seen_word_alike (suc n) fs gs a w same = same n (seen_word n fs a w) ∙ ap (look n (gs n) a) (seen_word_alike n fs gs a w same)
 
 -- a word that the transfers of one device cover neither before nor after is seen alike
-seen_word_kept : (n d : ℕ) (f : Option Flight) (flights : ℕ → Option Flight) (a w : ℕ) → covers d f a ≡ false → covers d (flights d) a ≡ false → seen_word n (with_flight d f flights) a w ≡ seen_word n flights a w
+seen_word_kept : (n d : ℕ) (f : Option Flight) (flights : ℕ → Option Flight) (a w : ℕ) → covers d f a ≡ false → covers d (flights d) a ≡ false
+    → seen_word n (with_flight d f flights) a w ≡ seen_word n flights a w
 seen_word_kept n d f flights a w new old =
     seen_word_alike n (with_flight d f flights) flights a w
     (λ e x. ⊎_elim
     (λ (same : e ≡ d).
-    ap (λ g. look e g a x) (with_flight_is e d f flights same) ∙ look_apart e f a x (rw (← same) at new) ∙ sym (look_apart e (flights e) a x (rw (← same) at old)))
+    ap (λ g. look e g a x) (with_flight_is e d f flights same) ∙ look_apart e f a x (rw (← same) at new)
+    ∙ sym (look_apart e (flights e) a x (rw (← same) at old)))
     (λ (ne : e ≢ d). ap (λ g. look e g a x) (with_flight_other d e f flights ne))
     (cases_eq e d))
 
 -- a word that this transfer alone covers is as it was before it
-seen_word_new : (n d : ℕ) (f : Flight) (flights : ℕ → Option Flight) (a w : ℕ) → d < n → covers d (Some f) a ≡ true → touched_below n flights (group_of a) ≡ false → seen_word n (with_flight d (Some f) flights) a w ≡ word_at f.before a
+seen_word_new : (n d : ℕ) (f : Flight) (flights : ℕ → Option Flight) (a w : ℕ) → d < n → covers d (Some f) a ≡ true
+    → touched_below n flights (group_of a) ≡ false → seen_word n (with_flight d (Some f) flights) a w ≡ word_at f.before a
 seen_word_new zero d f flights a w lt is free = absurd (omega arith)
 seen_word_new (suc n) d f flights a w lt is free =
     ⊎_elim
@@ -75,13 +82,16 @@ none_there None free = refl
 none_there (Some x) free = cc
 
 -- the needs of an area are not pending, so no group of the area is
-order_apart : (hidden : Need → Bool) (o : TransferOrder) (first last a : ℕ) → list_any hidden (map Group (order_groups o first last)) ≡ false → has_area o ≡ true → first ≤ a → a ≤ last → hidden (Group (group_of a)) ≡ false
+order_apart : (hidden : Need → Bool) (o : TransferOrder) (first last a : ℕ) → list_any hidden (map Group (order_groups o first last)) ≡ false
+    → has_area o ≡ true → first ≤ a → a ≤ last → hidden (Group (group_of a)) ≡ false
 order_apart hidden o first last a none has low high =
     area_apart hidden first last a low high (subst (λ b. list_any hidden (map Group (cond b (groups_of first last) [])) ≡ false) has none)
 
 -- ---- a transfer that begins shows nothing of itself
-module _ (flights : ℕ → Option Flight) (mine : List ℕ) (answer : Question → ℕ) (d : ℕ) (o : TransferOrder) (first last : ℕ) (after : Registers) (s : State) (small : d < device_count) (none : HidesNone (pending flights) (effect_needs mine (Starting d o first last after))) where
-  pub begin_seen : begun_by answer (Starting d o first last after) (seen flights s) ≡ seen (flights_after flights s (Starting d o first last after)) (perform answer (Starting d o first last after) s)
+module _ (flights : ℕ → Option Flight) (mine : List ℕ) (answer : Question → ℕ) (d : ℕ) (o : TransferOrder) (first last : ℕ) (after : Registers) (s : State)
+    (small : d < device_count) (none : HidesNone (pending flights) (effect_needs mine (Starting d o first last after))) where
+  pub begin_seen : begun_by answer (Starting d o first last after) (seen flights s) ≡ seen (flights_after flights s (Starting d o first last after))
+      (perform answer (Starting d o first last after) s)
   begin_seen =
       same_states _ _
       (record {
@@ -144,15 +154,18 @@ module _ (flights : ℕ → Option Flight) (mine : List ℕ) (answer : Question 
           (cases_eq x d)
 
 -- an effect, whatever it is
-begun_any : (flights : ℕ → Option Flight) (mine : List ℕ) (answer : Question → ℕ) (s : State) (e : Effect) → IsChecked s.stock.claims e → HidesNone (pending flights) (effect_needs mine e) → begun_by answer e (seen flights s) ≡ seen (flights_after flights s e) (perform answer e s)
+begun_any : (flights : ℕ → Option Flight) (mine : List ℕ) (answer : Question → ℕ) (s : State) (e : Effect) → IsChecked s.stock.claims e
+    → HidesNone (pending flights) (effect_needs mine e) → begun_by answer e (seen flights s) ≡ seen (flights_after flights s e) (perform answer e s)
 begun_any flights mine answer s (Starting d o first last after) checked none =
     begin_seen flights mine answer d o first last after s (claim_small s.stock.claims d _ checked.0) none
 begun_any flights mine answer s e checked none = perform_seen flights mine answer e s none
 
 -- ---- the next order
 module _ (flights : ℕ → Option Flight) (mine : List ℕ) (s : State) (none : HidesNone (pending flights) (needs s mine)) where
-  pub parts_apart : HidesNone (pending flights) (fetch_needs s.stock.claims.size (word_at s) s.registers.at) × HidesNone (pending flights) (effect_needs mine (next_effect s))
-  parts_apart = or_parts _ _ (sym (list_any-append (pending flights) (fetch_needs s.stock.claims.size (word_at s) s.registers.at) (effect_needs mine (next_effect s))) ∙ none)
+  pub parts_apart : HidesNone (pending flights) (fetch_needs s.stock.claims.size (word_at s) s.registers.at)
+      × HidesNone (pending flights) (effect_needs mine (next_effect s))
+  parts_apart = or_parts _ _ (sym (list_any-append (pending flights) (fetch_needs s.stock.claims.size (word_at s) s.registers.at)
+      (effect_needs mine (next_effect s))) ∙ none)
 
   pub same_next : next_effect s ≡ next_effect (seen flights s)
   same_next = effect_agree (pending flights) s (seen flights s) (seen_agrees flights s) parts_apart.0
@@ -163,11 +176,13 @@ module _ (flights : ℕ → Option Flight) (mine : List ℕ) (s : State) (none :
 
   -- where a transfer only begins
   pub begun_seen : (answer : Question → ℕ) → begun_row (seen flights s) answer ≡ seen (flights_after flights s (next_effect s)) (row s answer)
-  begun_seen answer = ap (λ e. begun_by answer e (seen flights s)) (sym same_next) ∙ begun_any flights mine answer s (next_effect s) (next_checked s) parts_apart.1
+  begun_seen answer = ap (λ e. begun_by answer e (seen flights s)) (sym same_next)
+      ∙ begun_any flights mine answer s (next_effect s) (next_checked s) parts_apart.1
 
 -- ---- what more transfers show doesn't turn on what fewer show
 
-twice_word : (n : ℕ) (fewer more : ℕ → Option Flight) (a w : ℕ) → ((d : ℕ) → (fewer d ≡ None) ⊎ (fewer d ≡ more d)) → seen_word n more a (seen_word n fewer a w) ≡ seen_word n more a w
+twice_word : (n : ℕ) (fewer more : ℕ → Option Flight) (a w : ℕ) → ((d : ℕ) → (fewer d ≡ None) ⊎ (fewer d ≡ more d))
+    → seen_word n more a (seen_word n fewer a w) ≡ seen_word n more a w
 twice_word zero fewer more a w part = refl
 twice_word (suc n) fewer more a w part =
     ⊎_elim
@@ -177,7 +192,8 @@ twice_word (suc n) fewer more a w part =
     ap (look n (more n) a) (ap (λ x. seen_word n more a x) (look_apart n (fewer n) a (seen_word n fewer a w) none) ∙ twice_word n fewer more a w part))
     (cases_Bool (covers n (more n) a))
 
-twice_device : (fewer more : Option Flight) (d : ℕ) (p : Progress) → (fewer ≡ None) ⊎ (fewer ≡ more) → seen_device more d (seen_device fewer d p) ≡ seen_device more d p
+twice_device : (fewer more : Option Flight) (d : ℕ) (p : Progress) → (fewer ≡ None) ⊎ (fewer ≡ more)
+    → seen_device more d (seen_device fewer d p) ≡ seen_device more d p
 twice_device fewer None d p part = ⊎_elim (λ e. ap (λ g. seen_device g d p) e) (λ e. ap (λ g. seen_device g d p) e) part
 twice_device fewer (Some f) d p part = refl
 
@@ -202,7 +218,8 @@ seen_twice fewer more s part =
     ∙ sym (seen_device_at more s d within))
 
 -- the transfers after an order are those before it, or more
-after_more : (flights : ℕ → Option Flight) (mine : List ℕ) (s : State) (e : Effect) → HidesNone (pending flights) (effect_needs mine e) → (x : ℕ) → (flights x ≡ None) ⊎ (flights x ≡ flights_after flights s e x)
+after_more : (flights : ℕ → Option Flight) (mine : List ℕ) (s : State) (e : Effect) → HidesNone (pending flights) (effect_needs mine e) → (x : ℕ)
+    → (flights x ≡ None) ⊎ (flights x ≡ flights_after flights s e x)
 after_more flights mine s (Starting d o first last after) none x =
     ⊎_elim
     (λ (same : x ≡ d). inl (ap flights same ∙ none_there (flights d) (or_parts _ _ none).0))
@@ -211,7 +228,9 @@ after_more flights mine s (Starting d o first last after) none x =
 after_more flights mine s e none x = inr refl
 
 -- an order in one step, of which is seen what the transfers after it leave to be seen
-pub hidden_seen : (flights : ℕ → Option Flight) (mine : List ℕ) (answer : Question → ℕ) (s : State) → HidesNone (pending flights) (needs s mine) → seen (flights_after flights s (next_effect s)) (row (seen flights s) answer) ≡ seen (flights_after flights s (next_effect s)) (row s answer)
+pub hidden_seen : (flights : ℕ → Option Flight) (mine : List ℕ) (answer : Question → ℕ) (s : State) → HidesNone (pending flights) (needs s mine)
+    → seen (flights_after flights s (next_effect s)) (row (seen flights s) answer) ≡ seen (flights_after flights s (next_effect s)) (row s answer)
 hidden_seen flights mine answer s none =
     ap (seen (flights_after flights s (next_effect s))) (row_seen flights mine s none answer)
-    ∙ seen_twice flights (flights_after flights s (next_effect s)) (row s answer) (after_more flights mine s (next_effect s) (parts_apart flights mine s none).1)
+    ∙ seen_twice flights (flights_after flights s (next_effect s)) (row s answer)
+    (after_more flights mine s (next_effect s) (parts_apart flights mine s none).1)

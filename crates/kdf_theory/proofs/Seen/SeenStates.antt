@@ -1,5 +1,6 @@
 -- What is seen agrees with the lone state in all that is not pending.
-use Rattle.std.proofs.Common.{◌≡◌, ℕ, zero, suc, ◌/◌, ◌<◌, ◌≤◌, true, false, List, [], ◌∷◌, length, drop, Bool, Option, Some, None, is_some, cond, refl, sym, ap, ◌∙◌, ⊎_elim, arith}
+use Rattle.std.proofs.Common.{◌≡◌, ℕ, zero, suc, ◌/◌, ◌<◌, ◌≤◌, true, false, List, [], ◌∷◌, length, drop, Bool, Option, Some, None, is_some, cond, refl, sym}
+use Rattle.std.proofs.Common.{ap, ◌∙◌, ⊎_elim, arith}
 use Rattle.std.specs.List.{list_any}
 use Rattle.std.proofs.lemmas.Bool.{or_parts, and_from, cases_Bool, cases_lt, false≢true, le-leb}
 use Rattle.std.proofs.lemmas.List.{ext_get_or, get_or_past}
@@ -29,20 +30,28 @@ pub record SameRest (s t : State) : Type 0 where
 
 -- states are equal if their parts are
 state_path : (s t : State) → SameRest s t → s.stock.store ≡ t.stock.store → s.stock.devices ≡ t.stock.devices → s ≡ t
-state_path s t h w d = λ i. record { registers = h.registers i; stock = record { claims = h.claims i; spooled = h.spooled i; asked = h.asked i; stints = h.stints i; store = w i; devices = d i } }
+state_path s t h w d = λ i. record {
+  registers = h.registers i;
+  stock =
+      record { claims = h.claims i; spooled = h.spooled i; asked = h.asked i; stints = h.stints i; store = w i; devices = d i };
+}
 
 -- states of one size are equal whose words agree, as far as they have words, and whose devices do
-pub same_states : (s t : State) → SameRest s t → length s.stock.store ≡ length t.stock.store → length s.stock.devices ≡ length t.stock.devices → ((a : ℕ) → a < length s.stock.store → word_at s a ≡ word_at t a) → ((d : ℕ) → d < length s.stock.devices → device_at s d ≡ device_at t d) → s ≡ t
+pub same_states : (s t : State) → SameRest s t → length s.stock.store ≡ length t.stock.store → length s.stock.devices ≡ length t.stock.devices
+    → ((a : ℕ) → a < length s.stock.store → word_at s a ≡ word_at t a) → ((d : ℕ) → d < length s.stock.devices → device_at s d ≡ device_at t d) → s ≡ t
 same_states s t rest size number words devices =
     state_path s t rest (ext_get_or 0 s.stock.store t.stock.store size words) (ext_get_or new_progress s.stock.devices t.stock.devices number devices)
 
 -- ---- the parts of what is seen
 
-pub seen_word_at : (flights : ℕ → Option Flight) (s : State) (a : ℕ) → a < length s.stock.store → word_at (seen flights s) a ≡ seen_word device_count flights a (word_at s a)
+pub seen_word_at : (flights : ℕ → Option Flight) (s : State) (a : ℕ) → a < length s.stock.store
+    → word_at (seen flights s) a ≡ seen_word device_count flights a (word_at s a)
 seen_word_at flights s a lt = get_or-map-range_with_len (λ x. seen_word device_count flights x (word_at s x)) 0 (length s.stock.store) a a 0 lt (omega arith)
 
-pub seen_device_at : (flights : ℕ → Option Flight) (s : State) (d : ℕ) → d < length s.stock.devices → device_at (seen flights s) d ≡ seen_device (flights d) d (device_at s d)
-seen_device_at flights s d lt = get_or-map-range_with_len (λ x. seen_device (flights x) x (device_at s x)) 0 (length s.stock.devices) d d new_progress lt (omega arith)
+pub seen_device_at : (flights : ℕ → Option Flight) (s : State) (d : ℕ) → d < length s.stock.devices
+    → device_at (seen flights s) d ≡ seen_device (flights d) d (device_at s d)
+seen_device_at flights s d lt = get_or-map-range_with_len (λ x. seen_device (flights x) x (device_at s x)) 0 (length s.stock.devices) d d new_progress lt
+    (omega arith)
 
 pub seen_size : (flights : ℕ → Option Flight) (s : State) → length (seen flights s).stock.store ≡ length s.stock.store
 seen_size flights s = length-map-range_with_len (λ x. seen_word device_count flights x (word_at s x)) 0 (length s.stock.store)
@@ -97,7 +106,8 @@ seen_agrees flights s =
       devices = λ d free.
           ⊎_elim
           (λ (lt : d < length s.stock.devices). sym (seen_device_at flights s d lt ∙ idle_device (flights d) d (device_at s d) free))
-          (λ (past : length s.stock.devices ≤ d). get_or_past s.stock.devices d new_progress past ∙ sym (get_or_past (seen flights s).stock.devices d new_progress (rw seen_number past)))
+          (λ (past : length s.stock.devices ≤ d). get_or_past s.stock.devices d new_progress past
+          ∙ sym (get_or_past (seen flights s).stock.devices d new_progress (rw seen_number past)))
           (cases_lt d (length s.stock.devices));
     }
 
@@ -112,14 +122,24 @@ seen_nothing flights s none =
     same_states _ _ (record { registers = refl; claims = refl; spooled = refl; asked = refl; stints = refl })
     (seen_size flights s)
     (seen_number flights s)
-    (λ a lt. let within : a < length s.stock.store = omega (arith, seen_size flights s) in seen_word_at flights s a within ∙ seen_word_nothing device_count flights a (word_at s a) none)
-    (λ d lt. let within : d < length s.stock.devices = omega (arith, seen_number flights s) in seen_device_at flights s d within ∙ ap (λ g. seen_device g d (device_at s d)) (none d))
+    (λ a lt. let within : a < length s.stock.store = omega (arith, seen_size flights s) in seen_word_at flights s a within
+    ∙ seen_word_nothing device_count flights a (word_at s a) none)
+    (λ d lt. let within : d < length s.stock.devices = omega (arith, seen_number flights s) in seen_device_at flights s d within
+    ∙ ap (λ g. seen_device g d (device_at s d)) (none d))
 
 -- an effect whose needs are not pending does the same to what is seen as to the lone state
-module _ (flights : ℕ → Option Flight) (mine : List ℕ) (answer : Question → ℕ) (e : Effect) (s : State) (none : HidesNone (pending flights) (effect_needs mine e)) where
+module _ (flights : ℕ → Option Flight) (mine : List ℕ) (answer : Question → ℕ) (e : Effect) (s : State)
+    (none : HidesNone (pending flights) (effect_needs mine e)) where
   pub perform_seen : perform answer e (seen flights s) ≡ seen flights (perform answer e s)
   perform_seen =
-      same_states _ _ (record { registers = sym agree.registers; claims = sym agree.claims; spooled = sym agree.spooled; asked = sym agree.asked; stints = sym agree.stints })
+      same_states _ _ (record {
+        registers = sym agree.registers;
+        claims = sym agree.claims;
+        spooled = sym agree.spooled;
+        asked = sym agree.asked;
+        stints =
+            sym agree.stints;
+      })
       (sym agree.size ∙ sym (seen_size flights (perform answer e s)))
       (sym agree.number ∙ sym (seen_number flights (perform answer e s)))
       word
@@ -134,24 +154,30 @@ module _ (flights : ℕ → Option Flight) (mine : List ℕ) (answer : Question 
       beside : Leaves (pending flights) (seen flights s) (perform answer e (seen flights s))
       beside = perform_leaves (pending flights) mine answer e (seen flights s) none
 
-      word : (a : ℕ) → a < length (perform answer e (seen flights s)).stock.store → word_at (perform answer e (seen flights s)) a ≡ word_at (seen flights (perform answer e s)) a
+      word : (a : ℕ) → a < length (perform answer e (seen flights s)).stock.store
+          → word_at (perform answer e (seen flights s)) a ≡ word_at (seen flights (perform answer e s)) a
       word a lt =
           let inside : a < length (perform answer e s).stock.store = omega (arith, agree.size) in
           let within : a < length s.stock.store = omega (arith, leaves.size) in
           ⊎_elim
           (λ (locked : pending flights (Group (group_of a)) ≡ true).
-          beside.words a locked ∙ seen_word_at flights s a within ∙ sym (ap (seen_word device_count flights a) (leaves.words a locked)) ∙ sym (seen_word_at flights (perform answer e s) a inside))
+          beside.words a locked ∙ seen_word_at flights s a within ∙ sym (ap (seen_word device_count flights a) (leaves.words a locked))
+          ∙ sym (seen_word_at flights (perform answer e s) a inside))
           (λ (free : pending flights (Group (group_of a)) ≡ false).
-          sym (agree.words a free) ∙ sym (seen_word_at flights (perform answer e s) a inside ∙ seen_apart device_count flights a (word_at (perform answer e s) a) free))
+          sym (agree.words a free) ∙ sym (seen_word_at flights (perform answer e s) a inside
+          ∙ seen_apart device_count flights a (word_at (perform answer e s) a) free))
           (cases_Bool (pending flights (Group (group_of a))))
 
-      device : (d : ℕ) → d < length (perform answer e (seen flights s)).stock.devices → device_at (perform answer e (seen flights s)) d ≡ device_at (seen flights (perform answer e s)) d
+      device : (d : ℕ) → d < length (perform answer e (seen flights s)).stock.devices
+          → device_at (perform answer e (seen flights s)) d ≡ device_at (seen flights (perform answer e s)) d
       device d lt =
           let inside : d < length (perform answer e s).stock.devices = omega (arith, agree.number) in
           let within : d < length s.stock.devices = omega (arith, leaves.number) in
           ⊎_elim
           (λ (locked : pending flights (Device d) ≡ true).
-          beside.devices d locked ∙ seen_device_at flights s d within ∙ sym (ap (seen_device (flights d) d) (leaves.devices d locked)) ∙ sym (seen_device_at flights (perform answer e s) d inside))
+          beside.devices d locked ∙ seen_device_at flights s d within ∙ sym (ap (seen_device (flights d) d) (leaves.devices d locked))
+          ∙ sym (seen_device_at flights (perform answer e s) d inside))
           (λ (free : pending flights (Device d) ≡ false).
-          sym (agree.devices d free) ∙ sym (seen_device_at flights (perform answer e s) d inside ∙ idle_device (flights d) d (device_at (perform answer e s) d) free))
+          sym (agree.devices d free) ∙ sym (seen_device_at flights (perform answer e s) d inside
+          ∙ idle_device (flights d) d (device_at (perform answer e s) d) free))
           (cases_Bool (pending flights (Device d)))

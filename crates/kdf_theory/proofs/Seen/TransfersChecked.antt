@@ -10,7 +10,8 @@ use Rattle.kdf_processor.specs.declared.registers.Registers.{Registers}
 use Rattle.kdf_transfer.specs.declared.test.Test.TheVariants.{Flag, Start, Mark}
 use Rattle.kdf_transfer.specs.Devices.{is_kind}
 use Rattle.kdf_processor.specs.Claims.{claim, is_claimed, kind_at}
-use Rattle.kdf_processor.specs.Effect.{Change, Refused, Going, of_change, Effect, Failing, Ending, Changing, Fetching, Keeping, Testing, Starting, Asking, Claiming, Returning, Spooling, IsBusy, IsOut, Time, FreeOf, OfService}
+use Rattle.kdf_processor.specs.Effect.{Change, Refused, Going, of_change, Effect, Failing, Ending, Changing, Fetching, Keeping, Testing, Starting, Asking}
+use Rattle.kdf_processor.specs.Effect.{Claiming, Returning, Spooling, IsBusy, IsOut, Time, FreeOf, OfService}
 use Rattle.kdf_processor.specs.Needs.{effect_or_liv, order_at, next_effect}
 use Rattle.kdf_processor.specs.State.{Claims, State, device_limit, word_at}
 use Rattle.kdf_transfer.specs.ByNumber.{device_count}
@@ -58,7 +59,8 @@ change_checked c (Refused kind) = tt
 change_checked c (Going after) = tt
 
 effect_checked : (c : Claims) (r : Registers) (o : Order) → IsChecked c (effect c r o)
-effect_checked c r = each_effect c r (λ _. Unit {0}) (IsChecked c) (λ e _. guarded_checked c e) (change_checked c) tt (λ code k q. tt) (λ t u q a. tt) (λ code q. tt) (λ b q. tt)
+effect_checked c r = each_effect c r (λ _. Unit {0}) (IsChecked c) (λ e _. guarded_checked c e) (change_checked c) tt (λ code k q. tt) (λ t u q a. tt)
+    (λ code q. tt) (λ b q. tt)
 
 or_liv_checked : (c : Claims) (r : Registers) (o : Option Order) → IsChecked c (effect_or_liv c r o)
 or_liv_checked c r None = tt

@@ -1,5 +1,6 @@
 -- A transfer that ends shows its device, and the words that are left.
-use Rattle.std.proofs.Common.{◌≡◌, ◌≢◌, ℕ, ◌+◌, ◌<◌, ◌≤◌, min, false, eqb, List, length, get_or, set, Option, Some, None, refl, sym, ap, ◌∙◌, subst, ⊎_elim, arith}
+use Rattle.std.proofs.Common.{◌≡◌, ◌≢◌, ℕ, ◌+◌, ◌<◌, ◌≤◌, min, false, eqb, List, length, get_or, set, Option, Some, None, refl, sym, ap, ◌∙◌, subst, ⊎_elim}
+use Rattle.std.proofs.Common.{arith}
 use Rattle.std.specs.List.{list_any}
 use Rattle.std.proofs.lemmas.Bool.{cases_eq, false≢true}
 use Rattle.std.proofs.lemmas.List.{get_or-set_same, get_or-set_other, length-set, drop_all, take_all, length-drop}
@@ -23,7 +24,8 @@ module _ (flights : ℕ → Option Flight) (s : State) (d : ℕ) (f : Flight) (t
   here : InFlight s d f
   here = subst (IfFlight s d) this (flying.each d)
 
-  end_seen : seen (with_flight d None flights) s ≡ with_devices (seen (with_moved d (move_count d f) f flights) s) (set (seen (with_moved d (move_count d f) f flights) s).stock.devices d (device_in (completed d f) d))
+  end_seen : seen (with_flight d None flights) s ≡ with_devices (seen (with_moved d (move_count d f) f flights) s)
+      (set (seen (with_moved d (move_count d f) f flights) s).stock.devices d (device_in (completed d f) d))
   end_seen =
       same_states _ _ (record { registers = refl; claims = refl; spooled = refl; asked = refl; stints = refl })
       (seen_size (with_flight d None flights) s ∙ sym (seen_size moved s))
@@ -52,7 +54,8 @@ module _ (flights : ℕ → Option Flight) (s : State) (d : ℕ) (f : Flight) (t
       none_left : (a : ℕ) → covers d (Some (moved_to (move_count d f) f)) a ≡ false
       none_left a = ap (list_any (λ m. eqb m.0 a)) (drop_all (move_count d f) (arrivals d f) (few_arrivals d f))
 
-      device : (x : ℕ) → x < length s.stock.devices → seen_device (with_flight d None flights x) x (device_at s x) ≡ get_or (set (seen moved s).stock.devices d (device_in (completed d f) d)) x new_progress
+      device : (x : ℕ) → x < length s.stock.devices → seen_device (with_flight d None flights x) x (device_at s x)
+          ≡ get_or (set (seen moved s).stock.devices d (device_in (completed d f) d)) x new_progress
       device x within =
           ⊎_elim
           (λ (at_d : x ≡ d).
@@ -63,7 +66,8 @@ module _ (flights : ℕ → Option Flight) (s : State) (d : ℕ) (f : Flight) (t
           ∙ sym (get_or-set_same (seen moved s).stock.devices d (device_in (completed d f) d) new_progress inside)
           ∙ sym (ap (λ y. get_or (set (seen moved s).stock.devices d (device_in (completed d f) d)) y new_progress) at_d))
           (λ (ne : x ≢ d).
-          ap (λ g. seen_device g x (device_at s x)) (with_flight_other d x None flights ne ∙ sym (with_flight_other d x (Some (moved_to (move_count d f) f)) flights ne))
+          ap (λ g. seen_device g x (device_at s x)) (with_flight_other d x None flights ne
+          ∙ sym (with_flight_other d x (Some (moved_to (move_count d f) f)) flights ne))
           ∙ sym (seen_device_at moved s x within)
           ∙ sym (get_or-set_other (seen moved s).stock.devices d x (device_in (completed d f) d) new_progress ne))
           (cases_eq x d)
@@ -78,7 +82,8 @@ module _ (flights : ℕ → Option Flight) (s : State) (d : ℕ) (f : Flight) (t
       ∙ ap (λ ms. with_store (seen flights s) (written ms (seen flights s).stock.store)) (take_all (move_count d f) (unmoved d f) short)
 
   -- the rest is moved, and the transfer ends
-  pub ends_seen : seen (with_flight d None flights) s ≡ with_both (seen flights s) (written (unmoved d f) (seen flights s).stock.store) (set (seen flights s).stock.devices d (device_in (completed d f) d))
+  pub ends_seen : seen (with_flight d None flights) s ≡ with_both (seen flights s) (written (unmoved d f) (seen flights s).stock.store)
+      (set (seen flights s).stock.devices d (device_in (completed d f) d))
   ends_seen = end_seen ∙ ap (λ (t : State). with_devices t (set t.stock.devices d (device_in (completed d f) d))) all_moved
 
 -- the others stay in flight

@@ -1,9 +1,11 @@
 -- What a whole transfer leaves, and where its words go.
-use Rattle.std.proofs.Common.{◌≡◌, ◌≢◌, ℕ, ◌+◌, ◌-◌, ◌/◌, ◌<◌, ◌≤◌, eqb, Bool, true, false, List, [], ◌∷◌, length, take, cond, Option, Some, None, refl, sym, ap, ◌∙◌, subst, ⊎_elim, arith}
+use Rattle.std.proofs.Common.{◌≡◌, ◌≢◌, ℕ, ◌+◌, ◌-◌, ◌/◌, ◌<◌, ◌≤◌, eqb, Bool, true, false, List, [], ◌∷◌, length, take, cond, Option, Some, None, refl, sym}
+use Rattle.std.proofs.Common.{ap, ◌∙◌, subst, ⊎_elim, arith}
 use Rattle.std.specs.List.{list_any}
 use Rattle.std.proofs.lemmas.Bool.{cases_Bool, cases_lt, and_from, le-leb, ne_eqb, true_from_ne_false, false≢true}
 use Rattle.std.proofs.lemmas.List.{get_or-set_other, length-take}
-use Rattle.kdf_transfer.specs.AtOnce.{is_input, is_output, is_backward, has_area, given, offered, moved_words, at_addresses, down_addresses, moves, written, order_words}
+use Rattle.kdf_transfer.specs.AtOnce.{is_input, is_output, is_backward, has_area, given, offered, moved_words, at_addresses, down_addresses, moves, written}
+use Rattle.kdf_transfer.specs.AtOnce.{order_words}
 use Rattle.kdf_transfer.specs.Devices.{Fixture, Progress, new_progress}
 use Rattle.kdf_transfer.specs.declared.order.TransferOrder.{TransferOrder}
 use Rattle.kdf_transfer.proofs.Areas.{input_has}
@@ -28,7 +30,8 @@ pub transferred_stints : (d : ℕ) (o : TransferOrder) (first last : ℕ) (f : O
 transferred_stints d o first last None k = refl
 transferred_stints d o first last (Some f) k = refl
 
-transferred_other : (d x : ℕ) (o : TransferOrder) (first last : ℕ) (f : Option Fixture) (k : Stock) → x ≢ d → device_in (transferred d o first last f k) x ≡ device_in k x
+transferred_other : (d x : ℕ) (o : TransferOrder) (first last : ℕ) (f : Option Fixture) (k : Stock) → x ≢ d
+    → device_in (transferred d o first last f k) x ≡ device_in k x
 transferred_other d x o first last None k ne = refl
 transferred_other d x o first last (Some f) k ne = get_or-set_other k.devices d x _ new_progress ne
 
@@ -67,7 +70,8 @@ pub arrivals_none : (d : ℕ) (f : Flight) → is_input f.order ≡ false → ar
 arrivals_none d f not = ap (λ b. cond b (all_moves d f) []) not
 
 -- no word arrives outside the area
-pub arrivals_outside : (d : ℕ) (f : Flight) (a : ℕ) → (has_area f.order ≡ true → f.first ≤ a → a ≤ f.last → ⊥) → list_any (λ m. eqb m.0 a) (arrivals d f) ≡ false
+pub arrivals_outside : (d : ℕ) (f : Flight) (a : ℕ) → (has_area f.order ≡ true → f.first ≤ a → a ≤ f.last → ⊥)
+    → list_any (λ m. eqb m.0 a) (arrivals d f) ≡ false
 arrivals_outside d f a out =
     ⊎_elim
     (λ (is : is_input f.order ≡ true). ap (list_any (λ m. eqb m.0 a)) (arrivals_input d f is) ∙ on (fixture_at f.before.stock.claims d) is)
@@ -76,7 +80,8 @@ arrivals_outside d f a out =
   where
     on : (x : Option Fixture) → is_input f.order ≡ true → list_any (λ m. eqb m.0 a) (moves_on d f x) ≡ false
     on None is = refl
-    on (Some x) is = moves_apart f.order f.first f.last x (device_at f.before d) (order_words f.order f.first f.last f.before.stock.store) a is (out (input_has f.order is))
+    on (Some x) is = moves_apart f.order f.first f.last x (device_at f.before d) (order_words f.order f.first f.last f.before.stock.store) a is
+        (out (input_has f.order is))
 
 -- a word arrives in a group that the transfer touches
 module _ (d : ℕ) (f : Flight) (a : ℕ) (arrives : list_any (λ m. eqb m.0 a) (arrivals d f) ≡ true) where
@@ -141,13 +146,16 @@ distinct_down from [] fits = tt
 distinct_down from (w ∷ ws) fits = (down_none from ws (omega arith), distinct_down (from - 1) ws (omega arith))
 
 -- an input order moves no more words than the area has
-few_moved : (o : TransferOrder) (first last : ℕ) (words : List ℕ) (f : Fixture) (p : Progress) → is_input o ≡ true → length (moved_words o first last words f p) ≤ last + 1 - first
+few_moved : (o : TransferOrder) (first last : ℕ) (words : List ℕ) (f : Fixture) (p : Progress) → is_input o ≡ true
+    → length (moved_words o first last words f p) ≤ last + 1 - first
 unfolding offered
 few_moved o first last words f p is =
-    let offer : offered o first last words f p ≡ take (last + 1 - first) (given o f p) = ap (λ b. cond b (take (last + 1 - first) (given o f p)) (cond (is_output o) words [])) is in
+    let offer : offered o first last words f p ≡ take (last + 1 - first) (given o f p) =
+    ap (λ b. cond b (take (last + 1 - first) (given o f p)) (cond (is_output o) words [])) is in
     omega (arith, stopped-le o (offered o first last words f p), ap length offer, length-take (last + 1 - first) (given o f p))
 
-distinct_moves : (o : TransferOrder) (first last : ℕ) (words : List ℕ) (f : Fixture) (p : Progress) → is_input o ≡ true → AreDistinct (moves o first last words f p)
+distinct_moves : (o : TransferOrder) (first last : ℕ) (words : List ℕ) (f : Fixture) (p : Progress) → is_input o ≡ true
+    → AreDistinct (moves o first last words f p)
 distinct_moves o first last words f p is = at (is_backward o)
   where
     at : (b : Bool) → AreDistinct (cond b (down_addresses last (moved_words o first last words f p)) (at_addresses first (moved_words o first last words f p)))

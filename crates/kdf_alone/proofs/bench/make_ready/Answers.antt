@@ -42,4 +42,5 @@ returns-clause-whole c =
     let there : c.from-place.result < length ps = omega (arith, c.args.places.now.ok.0) in
     let here : held ≡ get_or ps c.from-place.result Absent = c.index_mut.ensures.value ∙ get_or_default ps c.from-place.result held Absent there in
     let Q : Place → Type 0 = IsWhole in
-    All-set IsWhole ps c.from-place.result c.make_ready.new.self (c.make_ready.ensures.whole (subst Q (sym here) (All-get_or IsWhole ps c.from-place.result Absent there whole))) whole
+    All-set IsWhole ps c.from-place.result c.make_ready.new.self
+    (c.make_ready.ensures.whole (subst Q (sym here) (All-get_or IsWhole ps c.from-place.result Absent there whole))) whole

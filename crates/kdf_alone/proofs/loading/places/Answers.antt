@@ -20,9 +20,11 @@ loop-d-preserved c =
     let Q : List Place → Type 0 = All IsWhole in
     let R : List Place → Type 0 = All IsUnlent in
     record {
-      fixtures = one_more own_fixture_in (λ d. fixture_on (numbered devices d)) before c.push.new.self.items place c.loop-d.d c.loop-d.invariant.fixtures items c.in_ok-place.ensures.fixture;
+      fixtures = one_more own_fixture_in (λ d. fixture_on (numbered devices d)) before c.push.new.self.items place c.loop-d.d c.loop-d.invariant.fixtures items
+          c.in_ok-place.ensures.fixture;
       kinds = one_more pool_kind_in (lent_kind pool) before c.push.new.self.items place c.loop-d.d c.loop-d.invariant.kinds items c.in_ok-place.ensures.kind;
-      progresses = one_more progress_in (λ d. progress_on (numbered devices d)) before c.push.new.self.items place c.loop-d.d c.loop-d.invariant.progresses items c.in_ok-place.ensures.progress;
+      progresses = one_more progress_in (λ d. progress_on (numbered devices d)) before c.push.new.self.items place c.loop-d.d c.loop-d.invariant.progresses
+          items c.in_ok-place.ensures.progress;
       whole = subst Q (sym items) (All-push IsWhole before place c.loop-d.invariant.whole c.in_ok-place.ensures.whole);
       unlent = subst R (sym items) (All-push IsUnlent before place c.loop-d.invariant.unlent c.in_ok-place.ensures.unlent);
       count = ap length items ∙ length_push before place ∙ ap (λ n. n + 1) c.loop-d.invariant.count;

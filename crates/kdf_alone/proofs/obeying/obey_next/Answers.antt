@@ -24,4 +24,5 @@ pub obey_buffered-requires-clause-agrees : goal.obey_buffered-requires-clause-ag
 obey_buffered-requires-clause-agrees c =
     let b = c.args.bench.now in
     let new = c.prepare.new.self in
-    agrees_with (given (stock_of b).claims b.answer) (given (stock_of new).claims new.answer) (stock_of b) (stock_of new) c.args.held.now c.prepare.ensures.stock c.requires.agrees
+    agrees_with (given (stock_of b).claims b.answer) (given (stock_of new).claims new.answer) (stock_of b) (stock_of new) c.args.held.now
+    c.prepare.ensures.stock c.requires.agrees

@@ -10,7 +10,8 @@ pub push_codes-requires : goal.push_codes-requires
 push_codes-requires c =
     let ws = c.args.words.now in
     let fits : 8 * length ws ≤ vec_capacity c.loop-word.block = omega (arith, c.requires.room, c.loop-word.invariant.room) in
-    let h = room_for c.loop-word.block.items ws c.loop-word.word-index (vec_capacity c.loop-word.block) c.loop-word.invariant.block c.loop-word-test.true fits in
+    let h = room_for c.loop-word.block.items ws c.loop-word.word-index (vec_capacity c.loop-word.block) c.loop-word.invariant.block c.loop-word-test.true fits
+    in
     omega (arith, h, c.loop-word.block.ok.0)
 
 pub loop-word-preserved : goal.loop-word-preserved

@@ -13,4 +13,5 @@ returns-then-places-gt94 c =
 pub returns-else-places-gt94 : goal.returns-else-places-gt94
 returns-else-places-gt94 c =
     let f : FitsSigned w128 c.over_power.result = search rules in
-    c.is_sign.ensures ∙ ap is_sign (to_z-of_z w128 c.over_power.result f ∙ c.over_power.ensures.value) ∙ sym (fits_scaled c.args.value c.args.places (omega arith))
+    c.is_sign.ensures ∙ ap is_sign (to_z-of_z w128 c.over_power.result f ∙ c.over_power.ensures.value)
+    ∙ sym (fits_scaled c.args.value c.args.places (omega arith))

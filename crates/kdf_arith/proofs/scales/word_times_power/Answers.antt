@@ -8,8 +8,10 @@ use Rattle.kdf_arith.proofs.scales.word_times_power.Goals.{then-is_beyond_double
 pub returns-clause-overflow : goal.returns-clause-overflow
 returns-clause-overflow c =
     let z : ℤ = signed c.args.a *ℤ pos (2 ^ c.args.places) in
-    let beyond_double : c.times_power-value.result.1 ≡ not (double_fits z) = c.times_power-value.ensures.overflow ∙ ap (λ (v : ℤ). not (double_fits (v *ℤ pos (2 ^ c.args.places)))) c.stretch.ensures in
-    let value : c.times_power-value.result.0 ≡ put z = c.times_power-value.ensures.value ∙ ap (λ (v : ℤ). put (v *ℤ pos (2 ^ c.args.places))) c.stretch.ensures in
+    let beyond_double : c.times_power-value.result.1 ≡ not (double_fits z) = c.times_power-value.ensures.overflow
+    ∙ ap (λ (v : ℤ). not (double_fits (v *ℤ pos (2 ^ c.args.places)))) c.stretch.ensures in
+    let value : c.times_power-value.result.0 ≡ put z = c.times_power-value.ensures.value
+    ∙ ap (λ (v : ℤ). put (v *ℤ pos (2 ^ c.args.places))) c.stretch.ensures in
     let beyond_word : c.contract-word.result.1 ≡ not (fits (put z)) = c.contract-word.ensures.overflow ∙ ap (λ (v : ℤ). not (fits v)) value in
     elim c.if-is_beyond_double.branch [
       | then-is_beyond_double w ↦ let set : not (double_fits z) ≡ true = sym beyond_double ∙ w.if-is_beyond_double.true in

@@ -6,4 +6,5 @@ use Rattle.kdf_arith.proofs.values.xd.Goals as goal
 pub returns : goal.returns
 unfolding plain_row
 returns c =
-    rw c.in_ok-a.ensures.0 (put_on _ c.times-product.result.0 _ _ _ (omega (arith, c.in_ok-a.ensures.1)) c.times-product.ensures.value c.times-product.ensures.overflow c.push_double.ensures)
+    rw c.in_ok-a.ensures.0 (put_on _ c.times-product.result.0 _ _ _ (omega (arith, c.in_ok-a.ensures.1)) c.times-product.ensures.value
+    c.times-product.ensures.overflow c.push_double.ensures)

@@ -19,7 +19,8 @@ pub load-requires-clause-slots : goal.load-requires-clause-slots
 load-requires-clause-slots g c = subst (λ (ss : List ReadSlot). AreSlots (map shown_slot ss)) (sym c.deref.ensures.value) c.requires.job.slots
 
 pub load-requires-clause-images : goal.load-requires-clause-images
-load-requires-clause-images g c = subst (λ (ss : List ReadSlot). HaveImages (map shown_slot ss) (map words_in c.args.images.now)) (sym c.deref.ensures.value) c.requires.images
+load-requires-clause-images g c = subst (λ (ss : List ReadSlot). HaveImages (map shown_slot ss) (map words_in c.args.images.now)) (sym c.deref.ensures.value)
+    c.requires.images
 
 pub follow-requires : goal.follow-requires
 follow-requires g c =
@@ -28,26 +29,33 @@ follow-requires g c =
     let images = map words_in c.args.images.now in
     let programs = c.in_ok-programs.programs.items in
     let schedule = c.requires.job.schedule in
-    let kept = subst (λ (ss : List ReadSlot). (p : ℕ) → IsKeptAt (slots_of (map shown_slot ss) images) [] p (place_at programs p)) c.deref.ensures.value c.in_ok-programs.ensures.kept in
+    let kept = subst (λ (ss : List ReadSlot). (p : ℕ) → IsKeptAt (slots_of (map shown_slot ss) images) [] p (place_at programs p)) c.deref.ensures.value
+    c.in_ok-programs.ensures.kept in
     let few_events : length es ≤ 500000 = schedule.few in
     let few : order_count es ≤ 20000000 = omega (arith, schedule.few_orders) in
     λ lives within. pair within
     (pair c.requires.service
     (pair c.new-journal.ensures
-    (pair (subst (λ (table : List (Option Pending)). Keeps (λ n a. goal.F-post g c.args.service.now n a) (slots_of jobs images) c.new-journal.result.entries table programs) (sym c.new-table.ensures)
-    (start-keeps (λ n a. goal.F-post g c.args.service.now n a) jobs images c.requires.job.slots c.requires.images c.new-journal.result.entries programs c.new-journal.ensures kept c.in_ok-programs.ensures.four))
+    (pair (subst (λ (table : List (Option Pending)). Keeps (λ n a. goal.F-post g c.args.service.now n a) (slots_of jobs images) c.new-journal.result.entries
+    table programs) (sym c.new-table.ensures)
+    (start-keeps (λ n a. goal.F-post g c.args.service.now n a) jobs images c.requires.job.slots c.requires.images c.new-journal.result.entries programs
+    c.new-journal.ensures kept c.in_ok-programs.ensures.four))
     (pair few_events
     (pair few
     (pair (rises 0 es schedule.rising schedule.each) schedule.each))))))
 
 pub returns-then-ne : goal.returns-then-ne
 returns-then-ne g c =
-    no-report (λ n a. goal.F-post g c.args.service.now n a) (slots_of (map shown_slot c.args.job.now.slots.items) (map words_in c.args.images.now)) c.args.job.now.events.items c.args.lines.now c.new-lines.result.rest.now c.take_line.result.text.now c.as_slice.result.now c.ne.result
+    no-report (λ n a. goal.F-post g c.args.service.now n a) (slots_of (map shown_slot c.args.job.now.slots.items) (map words_in c.args.images.now))
+    c.args.job.now.events.items c.args.lines.now c.new-lines.result.rest.now c.take_line.result.text.now c.as_slice.result.now c.ne.result
     c.new-lines.ensures.rest c.take_line.ensures.text c.as_slice.ensures c.ne.ensures c.if-ne.true
 
 pub returns : goal.returns
 returns g c =
-    a-report (λ n a. goal.F-post g c.args.service.now n a) (slots_of (map shown_slot c.args.job.now.slots.items) (map words_in c.args.images.now)) c.args.job.now.events.items c.args.lines.now c.requires.service.one c.new-lines.result.rest.now c.take_line.result.text.now c.as_slice.result.now c.ne.result
+    a-report (λ n a. goal.F-post g c.args.service.now n a) (slots_of (map shown_slot c.args.job.now.slots.items) (map words_in c.args.images.now))
+    c.args.job.now.events.items c.args.lines.now c.requires.service.one c.new-lines.result.rest.now c.take_line.result.text.now c.as_slice.result.now
+    c.ne.result
     (ahead c.take_line.new.self) c.entries.result.now c.follow.new.journal.entries c.first_difference.result c.verdict_of.result
-    c.new-lines.ensures.rest c.take_line.ensures.text c.as_slice.ensures c.ne.ensures c.if-ne.false c.take_line.ensures.rest c.entries.ensures c.in_ok-follow.ensures
+    c.new-lines.ensures.rest c.take_line.ensures.text c.as_slice.ensures c.ne.ensures c.if-ne.false c.take_line.ensures.rest c.entries.ensures
+    c.in_ok-follow.ensures
     c.first_difference.ensures.some c.first_difference.ensures.none c.verdict_of.ensures

@@ -5,4 +5,5 @@ use Rattle.kdf_check.proofs.next.next_of.Given as goal
 
 abbrev pub invariant-loop-p : goal.invariant-loop-p
 invariant-loop-p l =
-    find (λ (p : ℕ). goes (around_by l.table.places l.journal.entries 0) (place_at l.programs p)) l.priorities ≡ find (λ (p : ℕ). goes (around_by l.table.places l.journal.entries 0) (place_at l.programs p)) (drop l.p-index l.priorities)
+    find (λ (p : ℕ). goes (around_by l.table.places l.journal.entries 0) (place_at l.programs p)) l.priorities
+    ≡ find (λ (p : ℕ). goes (around_by l.table.places l.journal.entries 0) (place_at l.programs p)) (drop l.p-index l.priorities)

@@ -28,8 +28,10 @@ loop-entry-preserved c =
     let more = told_from (ahead c.next_told.new.lines) in
     let e = get_or es i (Ran 0 0) in
     let is = c.is_told.ensures.same c.if-not-is_told.false in
-    let next = subst (λ (r : Option (Option Entry)). IfSome r (λ _. c.next_told.new.lines.number ≡ c.loop-entry.lines.number + 1)) is c.next_told.ensures.number in
+    let next = subst (λ (r : Option (Option Entry)). IfSome r (λ _. c.next_told.new.lines.number ≡ c.loop-entry.lines.number + 1)) is
+    c.next_told.ensures.number in
     record {
-      alike = alike-on es (told_from (ahead c.args.lines)) rest i c.loop-entry.invariant.alike (Ran 0 0) e more c.loop-entry-test.true refl (same-first c.next_told.result rest more e c.next_told.ensures.some is);
+      alike = alike-on es (told_from (ahead c.args.lines)) rest i c.loop-entry.invariant.alike (Ran 0 0) e more c.loop-entry-test.true refl
+          (same-first c.next_told.result rest more e c.next_told.ensures.some is);
       number = omega (arith, next, c.loop-entry.invariant.number);
     }

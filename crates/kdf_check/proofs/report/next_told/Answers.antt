@@ -12,7 +12,8 @@ returns-then-is_empty-clause-none c = ap told_from (no-lines c.args.lines.now.re
 pub returns-else-begins_section-clause-some : goal.returns-else-begins_section-clause-some
 returns-else-begins_section-clause-some c =
     let some = some-lines c.args.lines.now.rest.now (sym c.is_empty.ensures ∙ c.if-is_empty.false) in
-    told-next (ahead c.args.lines.now) c.take_line-line.result.text.now some c.take_line-line.ensures.text (sym c.begins_section.ensures ∙ c.if-begins_section.false)
+    told-next (ahead c.args.lines.now) c.take_line-line.result.text.now some c.take_line-line.ensures.text (sym c.begins_section.ensures
+    ∙ c.if-begins_section.false)
     ∙ ap₂ (λ (x : Option Entry) (ls : List (List ℕ)). x ∷ told_from ls) (sym c.read_entry.ensures) (sym c.take_line-line.ensures.rest)
 
 pub returns-else-begins_section-clause-number : goal.returns-else-begins_section-clause-number

@@ -40,5 +40,6 @@ returns g c =
       whole =
           reach-whole (lone_dispatched g.slots) (calls_made es) K keeps.legal.in_form
           (subst (λ (fs : List Event). Reaches (lone_dispatched g.slots) [] (calls_made fs) (steps K)) c.deref.ensures.value
-          (subst (λ (P : List Step). Reaches (lone_dispatched g.slots) P (calls_made c.deref.result.now) (steps K)) (ap steps c.requires.1.1.0 ∙ steps-nil) c.in_ok-follow_each.ensures.steps));
+          (subst (λ (P : List Step). Reaches (lone_dispatched g.slots) P (calls_made c.deref.result.now) (steps K)) (ap steps c.requires.1.1.0 ∙ steps-nil)
+          c.in_ok-follow_each.ensures.steps));
     }

@@ -1,4 +1,5 @@
-use Rattle.std.proofs.Common.{◌≡◌, ℕ, ◌+◌, ◌<◌, ◌≤◌, List, ◌∷◌, true, false, length, length-drop, take, drop, get_or, drop-cons, add-one, refl, sym, ◌∙◌, ap, subst, arith}
+use Rattle.std.proofs.Common.{◌≡◌, ℕ, ◌+◌, ◌<◌, ◌≤◌, List, ◌∷◌, true, false, length, length-drop, take, drop, get_or, drop-cons, add-one, refl, sym, ◌∙◌, ap}
+use Rattle.std.proofs.Common.{subst, arith}
 use Rattle.kdf_journal.specs.Counts.{calls, clock, moves}
 use Rattle.kdf_journal.specs.Steps.{steps}
 use Rattle.kdf_schedule.specs.declared.event.Event.{Event}
@@ -23,7 +24,8 @@ returns-then-not-is_any_on-clause-keeps g c = c.loop-event.invariant.keeps
 
 pub returns-clause-steps : goal.returns-clause-steps
 returns-clause-steps g c =
-    ended_late g.slots (steps c.args.journal.now.entries) c.args.events.now c.loop-event.event-index g.slots c.loop-event.journal.entries c.loop-event.invariant.keeps.legal refl c.loop-event.invariant.taken c.loop-event-test.false
+    ended_late g.slots (steps c.args.journal.now.entries) c.args.events.now c.loop-event.event-index g.slots c.loop-event.journal.entries
+    c.loop-event.invariant.keeps.legal refl c.loop-event.invariant.taken c.loop-event-test.false
 
 pub returns-clause-keeps : goal.returns-clause-keeps
 returns-clause-keeps g c = c.loop-event.invariant.keeps
@@ -39,8 +41,10 @@ loop-event-init g c = record {
 
 pub returns-then-not-is_any_on-clause-steps : goal.returns-then-not-is_any_on-clause-steps
 returns-then-not-is_any_on-clause-steps g c =
-    ended_early g.slots (steps c.args.journal.now.entries) c.args.events.now c.loop-event.event-index g.slots c.loop-event.journal.entries c.loop-event.invariant.keeps.legal refl c.loop-event.invariant.taken
-    (live-so (λ n a. goal.F-post g c.args.service.now n a) g.slots c.loop-event.journal.entries c.loop-event.table.places c.loop-event.programs.items c.loop-event.invariant.keeps c.deref.result.now c.is_any_on.result false c.deref.ensures.value c.is_any_on.ensures c.if-not-is_any_on.true)
+    ended_early g.slots (steps c.args.journal.now.entries) c.args.events.now c.loop-event.event-index g.slots c.loop-event.journal.entries
+    c.loop-event.invariant.keeps.legal refl c.loop-event.invariant.taken
+    (live-so (λ n a. goal.F-post g c.args.service.now n a) g.slots c.loop-event.journal.entries c.loop-event.table.places c.loop-event.programs.items
+    c.loop-event.invariant.keeps c.deref.result.now c.is_any_on.result false c.deref.ensures.value c.is_any_on.ensures c.if-not-is_any_on.true)
 
 pub make_calls-requires : goal.make_calls-requires
 make_calls-requires g c =
@@ -52,7 +56,8 @@ make_calls-requires g c =
     let few_moves : moves c.loop-event.journal.entries + 4096 ≤ 2048000000 = omega (arith, c.loop-event.invariant.few_moves, length-drop i es) in
     λ lives within. pair within
     (pair c.requires.1.0
-    (pair (live-so (λ n a. goal.F-post g c.args.service.now n a) g.slots c.loop-event.journal.entries c.loop-event.table.places c.loop-event.programs.items c.loop-event.invariant.keeps c.deref.result.now c.is_any_on.result true c.deref.ensures.value c.is_any_on.ensures c.if-not-is_any_on.false)
+    (pair (live-so (λ n a. goal.F-post g c.args.service.now n a) g.slots c.loop-event.journal.entries c.loop-event.table.places c.loop-event.programs.items
+    c.loop-event.invariant.keeps c.deref.result.now c.is_any_on.result true c.deref.ensures.value c.is_any_on.ensures c.if-not-is_any_on.false)
     (pair c.loop-event.invariant.keeps
     (pair few
     (pair few_moves
@@ -68,10 +73,14 @@ loop-event-preserved g c =
     let new = c.in_ok-make_calls.ensures in
     record {
       taken =
-          some_more g.slots (steps c.args.journal.now.entries) es i g.slots c.loop-event.journal.entries c.loop-event.invariant.keeps.legal refl c.loop-event.invariant.taken c.make_calls.new.journal.entries 1 e (first_made es i lt)
-          (live-so (λ n a. goal.F-post g c.args.service.now n a) g.slots c.loop-event.journal.entries c.loop-event.table.places c.loop-event.programs.items c.loop-event.invariant.keeps c.deref.result.now c.is_any_on.result true c.deref.ensures.value c.is_any_on.ensures c.if-not-is_any_on.false) new.steps;
+          some_more g.slots (steps c.args.journal.now.entries) es i g.slots c.loop-event.journal.entries c.loop-event.invariant.keeps.legal refl
+          c.loop-event.invariant.taken c.make_calls.new.journal.entries 1 e (first_made es i lt)
+          (live-so (λ n a. goal.F-post g c.args.service.now n a) g.slots c.loop-event.journal.entries c.loop-event.table.places c.loop-event.programs.items
+          c.loop-event.invariant.keeps c.deref.result.now c.is_any_on.result true c.deref.ensures.value c.is_any_on.ensures c.if-not-is_any_on.false)
+          new.steps;
       keeps = new.keeps;
       few = omega (arith, c.loop-event.invariant.few, new.calls, order_count-drop es i (Orders 0) lt);
       few_moves = omega (arith, c.loop-event.invariant.few_moves, new.moves, length-drop i es, length-drop (i + 1) es);
-      rises = rw new.time (rises-rest (clock c.loop-event.journal.entries) e _ (rises-from es i (clock c.loop-event.journal.entries) lt c.loop-event.invariant.rises));
+      rises = rw new.time (rises-rest (clock c.loop-event.journal.entries) e _
+          (rises-from es i (clock c.loop-event.journal.entries) lt c.loop-event.invariant.rises));
     }

@@ -17,12 +17,14 @@ either (Some x) f g some none = f x some
 pub returns-clause-tried : goal.returns-clause-tried
 returns-clause-tried c =
     with_some c.obey_at_once.result
-    (λ _ done. tried_by c.args.turn.now done.kept c.obey_at_once.new.port c.args.registers.now c.obey_at_once.new.registers Done c.requires.quiet done.stays done.obeyed.step done.obeyed.registers done.obeyed.acted)
+    (λ _ done. tried_by c.args.turn.now done.kept c.obey_at_once.new.port c.args.registers.now c.obey_at_once.new.registers Done c.requires.quiet done.stays
+    done.obeyed.step done.obeyed.registers done.obeyed.acted)
     c.obey_at_once.ensures.obeyed
 
 pub returns-clause-same : goal.returns-clause-same
 returns-clause-same c =
     either c.obey_at_once.result
-    (λ _ done. program_then c.args.turn.now done.kept c.obey_at_once.new.port (program_stays c.args.turn.now done.kept done.stays) (program_acts done.kept c.obey_at_once.new.port _ done.obeyed.acted))
+    (λ _ done. program_then c.args.turn.now done.kept c.obey_at_once.new.port (program_stays c.args.turn.now done.kept done.stays)
+    (program_acts done.kept c.obey_at_once.new.port _ done.obeyed.acted))
     (λ left. subst (λ (t : Turn). SameProgram c.args.turn.now t) (sym left.1) (program_itself c.args.turn.now))
     c.obey_at_once.ensures.obeyed c.obey_at_once.ensures.left

@@ -10,4 +10,5 @@ returns-clause-tried c =
 pub returns-clause-same : goal.returns-clause-same
 returns-clause-same c =
     let done = c.in_ok-step.ensures.obeyed in
-    program_then c.args.turn.now done.kept c.obey_in_general.new.port (program_stays c.args.turn.now done.kept done.stays) (program_acts done.kept c.obey_in_general.new.port _ done.obeyed.acted)
+    program_then c.args.turn.now done.kept c.obey_in_general.new.port (program_stays c.args.turn.now done.kept done.stays)
+    (program_acts done.kept c.obey_in_general.new.port _ done.obeyed.acted)

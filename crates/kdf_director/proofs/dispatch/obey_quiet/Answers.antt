@@ -38,7 +38,8 @@ went t u w r left tried =
     went_on (reach_in t) (held_in t) t.moment (seat_in u r) (shared u) (seat_in w left) (shared w) w.note tried
 
 -- one more of which nothing is noted
-quiet_on : (place : Option ℕ) (t u w : Turn) (first r left : Registers) (n : ℕ) → QuietSince place t first n u r → w.note ≡ Quiet → TriesOver t u w r left Done → is_at place left ≡ false → QuietSince place t first (n + 1) w left
+quiet_on : (place : Option ℕ) (t u w : Turn) (first r left : Registers) (n : ℕ) → QuietSince place t first n u r → w.note ≡ Quiet → TriesOver t u w r left Done
+    → is_at place left ≡ false → QuietSince place t first (n + 1) w left
 quiet_on place t u w first r left n earlier quiet tried past =
     let one : suc n ≡ n + 1 = omega arith in
     subst (λ k. QuietSince place t first k w left) one (
@@ -55,7 +56,8 @@ pub returns-then-done-most-clause-tried : goal.returns-then-done-most-clause-tri
 returns-then-done-most-clause-tried g c =
     let before = c.loop-turn in
     let new = c.obey_at_hand.new in
-    last_by (reach_in c.args.turn.now) (held_in c.args.turn.now) c.args.turn.now.moment c.args.place before.done _ _ _ _ _ _ _ Done Done new.turn.note c.note.result
+    last_by (reach_in c.args.turn.now) (held_in c.args.turn.now) c.args.turn.now.moment c.args.place before.done _ _ _ _ _ _ _ Done Done new.turn.note
+    c.note.result
     before.invariant.earlier refl
     (over c.args.turn.now before.turn new.turn before.registers new.registers Done before.invariant.same c.in-Some.ensures.tried)
     refl c.note.ensures
@@ -74,7 +76,8 @@ loop-turn-preserved-in-Some g c =
       ran = omega (arith, before.invariant.ran, before.invariant.few, gone.ran);
       quiet = quiet;
       agrees = c.obey_at_hand.ensures.agrees;
-      earlier = quiet_on c.args.place c.args.turn.now before.turn new.turn c.args.registers.now before.registers new.registers before.done before.invariant.earlier quiet tried (sym c.is_at.ensures ∙ c.if-is_at.false);
+      earlier = quiet_on c.args.place c.args.turn.now before.turn new.turn c.args.registers.now before.registers new.registers before.done
+          before.invariant.earlier quiet tried (sym c.is_at.ensures ∙ c.if-is_at.false);
     }
 
 pub returns-then-done-most-2-clause-tried : goal.returns-then-done-most-2-clause-tried
@@ -85,7 +88,8 @@ returns-then-done-most-2-clause-tried g c =
     let new = c.obey_next.new in
     let tried : TriesOver mid.turn mid.turn new.turn mid.registers new.registers Done =
     subst (TriesOver mid.turn mid.turn new.turn mid.registers new.registers) c.in-Ok-Done.field-0-is c.in-Ok-Done.ensures.tried in
-    last_by (reach_in c.args.turn.now) (held_in c.args.turn.now) c.args.turn.now.moment c.args.place before.done _ _ _ _ _ _ _ Done Done new.turn.note c.note-then-done-most-2.result
+    last_by (reach_in c.args.turn.now) (held_in c.args.turn.now) c.args.turn.now.moment c.args.place before.done _ _ _ _ _ _ _ Done Done new.turn.note
+    c.note-then-done-most-2.result
     before.invariant.earlier refl
     (over c.args.turn.now before.turn new.turn before.registers new.registers Done before.invariant.same
     (unchanged before.turn mid.turn new.turn before.registers mid.registers new.registers Done left.0 left.1 tried))
@@ -105,13 +109,15 @@ loop-turn-preserved g c =
     (unchanged before.turn mid.turn new.turn before.registers mid.registers new.registers Done left.0 left.1 here) in
     let gone = went c.args.turn.now before.turn new.turn before.registers new.registers tried in
     record {
-      same = program_then c.args.turn.now mid.turn new.turn (program_then c.args.turn.now before.turn mid.turn before.invariant.same c.obey_at_hand.ensures.same) c.obey_next.ensures.same;
+      same = program_then c.args.turn.now mid.turn new.turn
+          (program_then c.args.turn.now before.turn mid.turn before.invariant.same c.obey_at_hand.ensures.same) c.obey_next.ensures.same;
       live = gone.state ∙ before.invariant.live;
       few = (let more = c.if-done-most-2.false in let few = before.invariant.few in omega arith);
       ran = omega (arith, before.invariant.ran, before.invariant.few, gone.ran);
       quiet = quiet;
       agrees = c.obey_next.ensures.agrees;
-      earlier = quiet_on c.args.place c.args.turn.now before.turn new.turn c.args.registers.now before.registers new.registers before.done before.invariant.earlier quiet tried (sym c.is_at-else-not-is_quiet-2.ensures ∙ c.if-is_at-2.false);
+      earlier = quiet_on c.args.place c.args.turn.now before.turn new.turn c.args.registers.now before.registers new.registers before.done
+          before.invariant.earlier quiet tried (sym c.is_at-else-not-is_quiet-2.ensures ∙ c.if-is_at-2.false);
     }
 
 pub returns-in-Ok : goal.returns-in-Ok
@@ -123,11 +129,13 @@ returns-in-Ok g c =
     let tried = unchanged before.turn mid.turn new.turn before.registers mid.registers new.registers c.in-Ok.step left.0 left.1 c.in-Ok.ensures.tried in
     record {
       tried =
-          last_by (reach_in c.args.turn.now) (held_in c.args.turn.now) c.args.turn.now.moment c.args.place before.done _ _ _ _ _ _ _ c.in-Ok.step c.in-Ok.step new.turn.note c.note-in-Ok.result
+          last_by (reach_in c.args.turn.now) (held_in c.args.turn.now) c.args.turn.now.moment c.args.place before.done _ _ _ _ _ _ _ c.in-Ok.step c.in-Ok.step
+          new.turn.note c.note-in-Ok.result
           before.invariant.earlier refl
           (over c.args.turn.now before.turn new.turn before.registers new.registers c.in-Ok.step before.invariant.same tried)
           refl c.note-in-Ok.ensures;
       err = tt;
       within = before.invariant.few;
-      same = program_then c.args.turn.now mid.turn new.turn (program_then c.args.turn.now before.turn mid.turn before.invariant.same c.obey_at_hand.ensures.same) c.obey_next.ensures.same;
+      same = program_then c.args.turn.now mid.turn new.turn
+          (program_then c.args.turn.now before.turn mid.turn before.invariant.same c.obey_at_hand.ensures.same) c.obey_next.ensures.same;
     }

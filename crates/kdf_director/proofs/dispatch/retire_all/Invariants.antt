@@ -9,7 +9,8 @@ use Rattle.kdf_director.proofs.dispatch.retire_all.Given as goal
 abbrev pub invariant-loop-i : goal.invariant-loop-i
 invariant-loop-i l =
     record {
-      both : (cells : Cells) → both_of (seat_of l.program) (shared_in cells l.places.items) ≡ retired l.i (both_of (seat_of l.fn.program) (shared_in cells l.fn.places.items));
+      both : (cells : Cells) → both_of (seat_of l.program) (shared_in cells l.places.items) ≡ retired l.i
+          (both_of (seat_of l.fn.program) (shared_in cells l.fn.places.items));
       many : length l.program.stints.items ≡ length l.fn.program.stints.items;
       hold : l.program.hold ≡ l.fn.program.hold;
       dry : AreDry l.fn.places.items → AreDry l.places.items;

@@ -29,7 +29,8 @@ pub returns-clause-ran : goal.returns-clause-ran
 returns-clause-ran g c =
     let at = (goal.at.returns-clause-ran g c).After-settle in
     if_ok c.try_next-tried.result.1 _ _
-    (λ x h. runs_by (reach_of c.args.stand.now.windows.now c.args.stand.now.slot.now) (held_by c.args.journal.now.entries) c.args.moment c.args.place c.try_next-tried.result.0 (before g at) (s g at) (mid g at) (between g at) _ _ x.0 x.1 (live g at)
+    (λ x h. runs_by (reach_of c.args.stand.now.windows.now c.args.stand.now.slot.now) (held_by c.args.journal.now.entries) c.args.moment c.args.place
+    c.try_next-tried.result.0 (before g at) (s g at) (mid g at) (between g at) _ _ x.0 x.1 (live g at)
     h
     (c.settle.ensures.both c.try_next-tried.new.store))
     c.try_next-tried.ensures.tried
@@ -38,7 +39,8 @@ pub returns-clause-err : goal.returns-clause-err
 returns-clause-err g c =
     let at = (goal.at.returns-clause-err g c).After-settle in
     on_err c.try_next-tried.result.1 _ _
-    (λ h. runs_still (reach_of c.args.stand.now.windows.now c.args.stand.now.slot.now) (held_by c.args.journal.now.entries) c.args.moment c.args.place c.try_next-tried.result.0 (before g at) (s g at) (mid g at) (between g at) _ _ (live g at)
+    (λ h. runs_still (reach_of c.args.stand.now.windows.now c.args.stand.now.slot.now) (held_by c.args.journal.now.entries) c.args.moment c.args.place
+    c.try_next-tried.result.0 (before g at) (s g at) (mid g at) (between g at) _ _ (live g at)
     h
     (c.settle.ensures.both c.try_next-tried.new.store))
     c.try_next-tried.ensures.err

@@ -18,7 +18,8 @@ returns-then-is_none-clause-asked g c =
 pub returns-clause-asked : goal.returns-clause-asked
 returns-clause-asked g c =
     has_answer (λ n a. goal.F-post g c.args.service.now n a)
-    (word_over (seat_of c.args.program.now) (reach_of c.args.stand.now.windows.now c.args.stand.now.slot.now) (shared_in c.args.store.now c.args.places.now.items))
+    (word_over (seat_of c.args.program.now) (reach_of c.args.stand.now.windows.now c.args.stand.now.slot.now)
+    (shared_in c.args.store.now c.args.places.now.items))
     _ _ (sym c.in_ok-word.ensures.asked) (omega arith) c.ask.ensures
 
 pub returns-clause-seat : goal.returns-clause-seat

@@ -16,7 +16,8 @@ returns-clause-asked c =
     let s = shared_in c.args.store.now c.args.places.now.items in
     let held = held_by c.args.journal.now.entries in
     c.asks_ahead.ensures
-    ∙ ap₂ (λ (w : Window) h. act_word (outcome (view (part_with x.p w slot x.claimed x.spooled.items x.stints.items) (setting (is_taken_by x.claimed held) (moment 0 h)) s) x.registers).act)
+    ∙ ap₂ (λ (w : Window) h. act_word (outcome
+    (view (part_with x.p w slot x.claimed x.spooled.items x.stints.items) (setting (is_taken_by x.claimed held) (moment 0 h)) s) x.registers).act)
     c.window_of.ensures c.default.ensures
     ∙ word_alike (part_with x.p (window_at c.args.stand.now.windows.now slot.p) slot x.claimed x.spooled.items x.stints.items)
     (setting (is_taken_by x.claimed held) (moment 0 0)) (setting (is_taken_by x.claimed (held_by [])) (moment 0 0)) s x.registers

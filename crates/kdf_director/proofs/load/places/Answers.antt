@@ -9,6 +9,7 @@ use Rattle.kdf_director.proofs.load.places.Goals as goal
 pub returns : goal.returns
 returns c =
     record {
-      spots = ap (map spot_of) c.put_all.ensures ∙ map_twice spot_of idle_place c.in_ok-idle.idle.items ∙ c.in_ok-idle.ensures.spots ∙ sixteen_numbers (idle_spot (map loaded c.args.slots.now));
+      spots = ap (map spot_of) c.put_all.ensures ∙ map_twice spot_of idle_place c.in_ok-idle.idle.items ∙ c.in_ok-idle.ensures.spots
+          ∙ sixteen_numbers (idle_spot (map loaded c.args.slots.now));
       dry = subst AreDry (sym c.put_all.ensures) (dry_is c.in_ok-idle.idle.items c.in_ok-idle.ensures.rings);
     }

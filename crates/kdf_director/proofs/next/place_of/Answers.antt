@@ -12,10 +12,12 @@ pub returns-then-program-p-clause-result : goal.returns-then-program-p-clause-re
 returns-then-program-p-clause-result c =
     sym (c.loop-i.invariant
     ∙ found_here (λ i. eqb (seat_at (seats_in c.args.programs.now) i).p c.args.p) c.loop-i.i (length c.args.programs.now) c.loop-i-test.true
-    (ap (λ n. eqb n c.args.p) (number_at c.args.programs.now c.loop-i.i c.loop-i-test.true c.index-programs-i.result c.index-programs-i.is) ∙ eq-eqb c.index-programs-i.result.p c.args.p c.if-program-p.true))
+    (ap (λ n. eqb n c.args.p) (number_at c.args.programs.now c.loop-i.i c.loop-i-test.true c.index-programs-i.result c.index-programs-i.is)
+    ∙ eq-eqb c.index-programs-i.result.p c.args.p c.if-program-p.true))
 
 pub loop-i-preserved : goal.loop-i-preserved
 loop-i-preserved c =
     c.loop-i.invariant
     ∙ found_behind (λ i. eqb (seat_at (seats_in c.args.programs.now) i).p c.args.p) c.loop-i.i (length c.args.programs.now) c.loop-i-test.true
-    (ap (λ n. eqb n c.args.p) (number_at c.args.programs.now c.loop-i.i c.loop-i-test.true c.index-programs-i.result c.index-programs-i.is) ∙ ne_eqb c.index-programs-i.result.p c.args.p c.if-program-p.false)
+    (ap (λ n. eqb n c.args.p) (number_at c.args.programs.now c.loop-i.i c.loop-i-test.true c.index-programs-i.result c.index-programs-i.is)
+    ∙ ne_eqb c.index-programs-i.result.p c.args.p c.if-program-p.false)

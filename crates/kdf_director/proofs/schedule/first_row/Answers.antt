@@ -14,7 +14,13 @@ loop-i-init c = record {
 
 pub overflow_add-orders : goal.overflow_add-orders
 overflow_add-orders c =
-    omega (arith, c.loop-i.invariant.count, c.requires.few, orders_within c.args.events.now c.loop-i.i c.in-Orders.n (Orders 0) c.loop-i-test.true c.in-Orders.is)
+    omega (
+      arith,
+      c.loop-i.invariant.count,
+      c.requires.few,
+      orders_within c.args.events.now c.loop-i.i c.in-Orders.n (Orders 0) c.loop-i-test.true
+          c.in-Orders.is,
+    )
 
 pub returns-in_default-2 : goal.returns-in_default-2
 returns-in_default-2 c =
@@ -39,5 +45,7 @@ returns-clause-row c =
     subst (λ (n : ℕ). IsRow (Orders c.loop-i.orders) (take n c.args.events.now)) all (inr (ap Orders c.loop-i.invariant.count, c.loop-i.invariant.all))
 
 pub returns-clause-in_range : goal.returns-clause-in_range
-returns-clause-in_range c =
-    (c.loop-i.invariant.some (omega (arith, c.requires.some, c.loop-i-test.false)), omega (arith, c.loop-i.invariant.count, c.requires.few, orders_taken c.args.events.now c.loop-i.i))
+returns-clause-in_range c = (
+  c.loop-i.invariant.some (omega (arith, c.requires.some, c.loop-i-test.false)),
+  omega (arith, c.loop-i.invariant.count, c.requires.few, orders_taken c.args.events.now c.loop-i.i),
+)

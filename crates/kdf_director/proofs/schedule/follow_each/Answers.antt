@@ -18,12 +18,14 @@ loop-made-init g c = record {
 
 pub returns-then-not-is_any_live-clause-steps : goal.returns-then-not-is_any_live-clause-steps
 returns-then-not-is_any_live-clause-steps g c =
-    ended_early c.args.machine.now.slots (steps c.args.machine.now.journal) c.args.events.now c.loop-made.made c.loop-made.machine.slots c.loop-made.machine.journal
+    ended_early c.args.machine.now.slots (steps c.args.machine.now.journal) c.args.events.now c.loop-made.made c.loop-made.machine.slots
+    c.loop-made.machine.journal
     c.if-not-is_any_live.ensures.legal c.loop-made.invariant.same_slots c.loop-made.invariant.taken (sym c.if-not-is_any_live.ensures.live)
 
 pub returns-clause-steps : goal.returns-clause-steps
 returns-clause-steps g c =
-    ended_late c.args.machine.now.slots (steps c.args.machine.now.journal) c.args.events.now c.loop-made.made c.loop-made.machine.slots c.loop-made.machine.journal
+    ended_late c.args.machine.now.slots (steps c.args.machine.now.journal) c.args.events.now c.loop-made.made c.loop-made.machine.slots
+    c.loop-made.machine.journal
     c.journal-journal.ensures.legal c.loop-made.invariant.same_slots c.loop-made.invariant.taken (omega arith)
 
 pub loop-made-preserved : goal.loop-made-preserved
@@ -40,19 +42,27 @@ loop-made-preserved g c =
       few = omega (arith, c.loop-made.invariant.few, c.in_ok-make_calls.ensures.calls, orders_split es i k e c.first_row-event.ensures.row);
       room = omega (arith, c.loop-made.invariant.room, c.in_ok-make_calls.ensures.room, entries_split es i k e c.first_row-event.ensures.row);
       spent = omega (arith, c.loop-made.invariant.spent, c.in_ok-make_calls.ensures.room, entries_split es i k e c.first_row-event.ensures.row);
-      rises = rw c.in_ok-make_calls.ensures.time (rises-rest (clock c.loop-made.machine.journal) e (drop (i + k) es) (rises_split es i k e c.first_row-event.ensures.row (clock c.loop-made.machine.journal) c.loop-made.invariant.rises));
+      rises = rw c.in_ok-make_calls.ensures.time
+          (rises-rest (clock c.loop-made.machine.journal) e (drop (i + k) es)
+          (rises_split es i k e c.first_row-event.ensures.row (clock c.loop-made.machine.journal) c.loop-made.invariant.rises));
       same_slots = c.in_ok-make_calls.ensures.slots ∙ c.loop-made.invariant.same_slots;
       truly = c.in_ok-make_calls.ensures.truly;
     }
 
 pub make_calls-requires-clause-room : goal.make_calls-requires-clause-room
 make_calls-requires-clause-room g c =
-    omega (arith, c.loop-made.invariant.room, entries_split c.args.events.now c.loop-made.made c.first_row-event.result.1 c.first_row-event.result.0 c.first_row-event.ensures.row)
+    omega (
+      arith,
+      c.loop-made.invariant.room,
+      entries_split c.args.events.now c.loop-made.made c.first_row-event.result.1 c.first_row-event.result.0
+          c.first_row-event.ensures.row,
+    )
 
 pub make_calls-requires-clause-rises : goal.make_calls-requires-clause-rises
 make_calls-requires-clause-rises g c =
     rises-first (clock c.loop-made.machine.journal) c.first_row-event.result.0 (drop (c.loop-made.made + c.first_row-event.result.1) c.args.events.now)
-    (rises_split c.args.events.now c.loop-made.made c.first_row-event.result.1 c.first_row-event.result.0 c.first_row-event.ensures.row (clock c.loop-made.machine.journal) c.loop-made.invariant.rises)
+    (rises_split c.args.events.now c.loop-made.made c.first_row-event.result.1 c.first_row-event.result.0 c.first_row-event.ensures.row
+    (clock c.loop-made.machine.journal) c.loop-made.invariant.rises)
 
 pub make_calls-requires-clause-service : goal.make_calls-requires-clause-service
 make_calls-requires-clause-service g c = c.requires.service
@@ -68,7 +78,12 @@ make_calls-requires-clause-truly g c = c.loop-made.invariant.truly
 
 pub make_calls-requires-clause-few : goal.make_calls-requires-clause-few
 make_calls-requires-clause-few g c =
-    omega (arith, c.loop-made.invariant.few, orders_split c.args.events.now c.loop-made.made c.first_row-event.result.1 c.first_row-event.result.0 c.first_row-event.ensures.row)
+    omega (
+      arith,
+      c.loop-made.invariant.few,
+      orders_split c.args.events.now c.loop-made.made c.first_row-event.result.1 c.first_row-event.result.0
+          c.first_row-event.ensures.row,
+    )
 
 pub returns-then-not-is_any_live-clause-legal : goal.returns-then-not-is_any_live-clause-legal
 returns-then-not-is_any_live-clause-legal g c = c.if-not-is_any_live.ensures.legal

@@ -20,7 +20,8 @@ follow_each-requires-clause-few g c =
     let es = c.args.events.now in
     let i = c.args.first in
     let front = few-calls c.args.machine.now.slots (take i es) c.args.machine.now.journal c.requires.followed.legal c.requires.followed.whole in
-    let parts : order_count es ≡ order_count (take i es) + order_count (drop i es) = ap order_count (sym (take-append-drop i es)) ∙ order_count-append (take i es) (drop i es) in
+    let parts : order_count es ≡ order_count (take i es) + order_count (drop i es) = ap order_count (sym (take-append-drop i es))
+    ∙ order_count-append (take i es) (drop i es) in
     omega (arith, front, parts, c.requires.few, ap order_count (rest-is es i))
 
 pub follow_each-requires-clause-room : goal.follow_each-requires-clause-room
@@ -34,7 +35,8 @@ follow_each-requires-clause-rises g c =
     let es = c.args.events.now in
     let i = c.args.first in
     subst (IsRising (clock c.args.machine.now.journal)) (sym (rest-is es i))
-    (rising-on c.args.machine.now.slots (take i es) (drop i es) c.args.machine.now.journal c.requires.followed.legal c.requires.followed.whole (subst (IsRising 0) (sym (take-append-drop i es)) c.requires.rises))
+    (rising-on c.args.machine.now.slots (take i es) (drop i es) c.args.machine.now.journal c.requires.followed.legal c.requires.followed.whole
+    (subst (IsRising 0) (sym (take-append-drop i es)) c.requires.rises))
 
 pub returns-clause-journal : goal.returns-clause-journal
 returns-clause-journal g c =
@@ -44,7 +46,8 @@ returns-clause-journal g c =
     let new = c.follow_each.new.machine in
     let same : new.slots ≡ old.slots = c.in_ok-follow_each.ensures.slots in
     let on : Reaches (lone_dispatched old.slots) (steps old.journal) (calls_made (drop i es)) (steps new.journal) =
-    subst (λ (fs : List Event). Reaches (lone_dispatched old.slots) (steps old.journal) (calls_made fs) (steps new.journal)) (rest-is es i) c.in_ok-follow_each.ensures.steps in
+    subst (λ (fs : List Event). Reaches (lone_dispatched old.slots) (steps old.journal) (calls_made fs) (steps new.journal))
+    (rest-is es i) c.in_ok-follow_each.ensures.steps in
     subst (λ (slots : List Slot). IsJournalFor (λ n a. goal.F-post g c.args.service.now n a) slots es new.journal) (sym same)
     (went-on (λ n a. goal.F-post g c.args.service.now n a) old.slots es i old.journal new.journal c.requires.followed
     (subst (λ (slots : List Slot). IsLegal slots new.journal) same c.in_ok-follow_each.ensures.legal)

@@ -15,8 +15,10 @@ stint_told-requires c =
     let x = c.index.result.now in
     let found : find (λ (y : Program). eqb y.p c.args.p) c.args.programs.now ≡ Some p = sym c.program_of.ensures ∙ ap option_copied c.in-Some.is in
     let lt : c.args.i < length p.stints.items = subst (λ o. IsSomeAnd o (λ (y : Program). c.args.i < length y.stints.items)) found c.requires.there in
-    let all : HasLent places (map keeping_of p.stints.items) = subst (λ o. IfSome o (λ (y : Program). HasLent places (map keeping_of y.stints.items))) found c.requires.lent in
-    let at : get_or (map keeping_of p.stints.items) c.args.i (keeping_of x) ≡ keeping_of x = get_or-map keeping_of p.stints.items c.args.i x (keeping_of x) lt ∙ ap keeping_of (sym c.index.ensures) in
+    let all : HasLent places (map keeping_of p.stints.items) = subst (λ o. IfSome o (λ (y : Program). HasLent places (map keeping_of y.stints.items))) found
+    c.requires.lent in
+    let at : get_or (map keeping_of p.stints.items) c.args.i (keeping_of x) ≡ keeping_of x = get_or-map keeping_of p.stints.items c.args.i x (keeping_of x) lt
+    ∙ ap keeping_of (sym c.index.ensures) in
     λ lent.
     ap (λ (y : Keeping). is_some (spot_at places y.device).fixture) (sym at)
     ∙ all c.args.i (keeping_of x) (omega (arith, length-map p.stints.items keeping_of)) (ap (λ (y : Keeping). is_lent y.loan) at ∙ lent)

@@ -15,4 +15,5 @@ returns-in-Some c =
 pub returns-in_default : goal.returns-in_default
 returns-in_default c =
     none_handed c.args.stints.now.items c.args.d (Back (fixture_of c.args.device) (progress_of c.args.device))
-    (subst (λ xs. (i : ℕ) → i < length xs → is_open_of c.args.d (get_or (map keeping_of xs) i no_keeping) ≡ false) c.deref.ensures.value c.in_default.ensures.none)
+    (subst (λ xs. (i : ℕ) → i < length xs → is_open_of c.args.d (get_or (map keeping_of xs) i no_keeping) ≡ false) c.deref.ensures.value
+    c.in_default.ensures.none)

@@ -10,5 +10,6 @@ returns-in-Ok c =
     let due = c.in-Ok.ensures in
     let out = c.hand_out.ensures in
     told words job c.args.room.now c.hand_out.new.room c.deref.result.now c.in-Ok.status _ _ due.called due.answer due.usage
-    (subst (λ (xs : List ℕ). AreFacts words job xs) (sym c.deref.ensures.value) (λ run. record { fault = due.fault run; deck = due.deck run; run = due.run run }))
+    (subst (λ (xs : List ℕ). AreFacts words job xs) (sym c.deref.ensures.value)
+    (λ run. record { fault = due.fault run; deck = due.deck run; run = due.run run }))
     out.size out.fits out.text out.short out.short_writes out.beyond

@@ -5,4 +5,5 @@ use Rattle.kdf_facts.proofs.alone.run_alone.Goals as goal
 
 pub returns : goal.returns
 returns c =
-    ran_from (shown_slot c.args.slot.now) c.args.image.now.words.items [] c.args.orders c.in_ok-program.program c.orders.new.self c.requires.slot c.in_ok-program.ensures c.in_ok-orders.ensures
+    ran_from (shown_slot c.args.slot.now) c.args.image.now.words.items [] c.args.orders c.in_ok-program.program c.orders.new.self c.requires.slot
+    c.in_ok-program.ensures c.in_ok-orders.ensures

@@ -10,4 +10,5 @@ load-requires-clause-images c = fitting_images c.args.job.now.slots.items c.args
 
 pub returns-clause-slots : goal.returns-clause-slots
 returns-clause-slots c =
-    map_ok _ _ c.load.result (λ m e. e ∙ ap (λ (xs : List (List ℕ)). loading.slots_of (shown_job c.args.job.now).slots xs) (same_words c.args.job.now.slots.items c.args.images.now c.requires.images)) c.load.ensures.slots
+    map_ok _ _ c.load.result (λ m e. e ∙ ap (λ (xs : List (List ℕ)). loading.slots_of (shown_job c.args.job.now).slots xs)
+    (same_words c.args.job.now.slots.items c.args.images.now c.requires.images)) c.load.ensures.slots

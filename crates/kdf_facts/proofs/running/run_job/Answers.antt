@@ -9,7 +9,8 @@ follow_noting-requires-clause-room g c =
     rw c.deref.ensures.value (omega arith)
 
 pub follow_noting-requires-clause-rises : goal.follow_noting-requires-clause-rises
-follow_noting-requires-clause-rises g c = rw c.deref.ensures.value (rises 0 c.args.job.now.events.items c.requires.job.schedule.rising c.requires.job.schedule.each)
+follow_noting-requires-clause-rises g c =
+    rw c.deref.ensures.value (rises 0 c.args.job.now.events.items c.requires.job.schedule.rising c.requires.job.schedule.each)
 
 pub follow_noting-requires-clause-in_range : goal.follow_noting-requires-clause-in_range
 follow_noting-requires-clause-in_range g c = rw c.deref.ensures.value c.requires.job.schedule.each

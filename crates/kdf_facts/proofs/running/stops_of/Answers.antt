@@ -9,7 +9,8 @@ stops_at-stops-requires-clause-room g c =
     rw c.deref.ensures.value (omega arith)
 
 pub stops_at-stops-requires-clause-rises : goal.stops_at-stops-requires-clause-rises
-stops_at-stops-requires-clause-rises g c = rw c.deref.ensures.value (rises 0 c.args.job.now.events.items c.requires.job.schedule.rising c.requires.job.schedule.each)
+stops_at-stops-requires-clause-rises g c =
+    rw c.deref.ensures.value (rises 0 c.args.job.now.events.items c.requires.job.schedule.rising c.requires.job.schedule.each)
 
 pub stops_at-stops-requires-clause-in_range : goal.stops_at-stops-requires-clause-in_range
 stops_at-stops-requires-clause-in_range g c = rw c.deref.ensures.value c.requires.job.schedule.each

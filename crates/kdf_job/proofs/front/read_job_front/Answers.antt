@@ -7,7 +7,8 @@ use Rattle.kdf_job.specs.Front.{lines_to_end}
 use Rattle.kdf_job.specs.Lengths.{weight}
 use Rattle.kdf_job.specs.Reading.{Says, draft_of, fault_from}
 use Rattle.kdf_job.specs.Shows.{shown_draft}
-use Rattle.kdf_job.proofs.Fronts.{front_begins, front_ends, front_fault_on, front_is_so_long, front_longer, front_read, front_stopped, front_tells, front_told_on, none_to_end, some_to_end}
+use Rattle.kdf_job.proofs.Fronts.{front_begins, front_ends, front_fault_on, front_is_so_long, front_longer, front_read, front_stopped, front_tells}
+use Rattle.kdf_job.proofs.Fronts.{front_told_on, none_to_end, some_to_end}
 use Rattle.kdf_job.proofs.front.read_job_front.Goals as goal
 
 pub loop-alloc-init : goal.loop-alloc-init

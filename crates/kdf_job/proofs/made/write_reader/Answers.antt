@@ -11,8 +11,10 @@ loop-init c = record {
 
 pub loop-preserved : goal.loop-preserved
 loop-preserved c = record {
-  written = reader_more c.args.letters.now.x c.loop.counter c.loop.letters.x _ _ _ c.loop.invariant.written c.loop.invariant.next c.in_ok-write_reader_line.ensures.line;
-  next = steps_go_on c.args.letters.now.x (16 * c.loop.counter) 16 (16 * (c.loop.counter + 1)) _ _ c.loop.invariant.next c.in_ok-write_reader_line.ensures.next (omega arith);
+  written = reader_more c.args.letters.now.x c.loop.counter c.loop.letters.x _ _ _ c.loop.invariant.written c.loop.invariant.next
+      c.in_ok-write_reader_line.ensures.line;
+  next = steps_go_on c.args.letters.now.x (16 * c.loop.counter) 16 (16 * (c.loop.counter + 1)) _ _ c.loop.invariant.next c.in_ok-write_reader_line.ensures.next
+      (omega arith);
   few = omega arith;
 }
 

@@ -13,7 +13,8 @@ pub loop-preserved : goal.loop-preserved
 loop-preserved c =
     let small : c.take.result < 128 = let e = c.take.ensures.letter in omega arith in
     record {
-      written = front_more c.args.letters.now.x c.loop.counter c.loop.letters.x c.take.result _ _ _ c.loop.invariant.written c.loop.invariant.next c.take.ensures.letter
+      written = front_more c.args.letters.now.x c.loop.counter c.loop.letters.x c.take.result _ _ _ c.loop.invariant.written c.loop.invariant.next
+          c.take.ensures.letter
           (c.in_ok-push.ensures.bytes ∙ ap (λ xs. string_bytes c.loop.out ++ xs) (c.in_ok-push.ensures.ascii small));
       next = front_steps _ _ _ _ c.loop.invariant.next c.take.ensures.next;
       few = omega arith;

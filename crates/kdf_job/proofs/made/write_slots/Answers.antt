@@ -11,8 +11,10 @@ loop-p-init c = record {
 
 pub loop-p-preserved : goal.loop-p-preserved
 loop-p-preserved c = record {
-  written = slots_more c.args.letters.now.x c.loop-p.p c.loop-p.letters.x _ _ _ c.loop-p.invariant.written c.loop-p.invariant.next c.in_ok-write_slot.ensures.lines;
-  next = steps_go_on c.args.letters.now.x (3200 * c.loop-p.p) 3200 (3200 * (c.loop-p.p + 1)) _ _ c.loop-p.invariant.next c.in_ok-write_slot.ensures.next (omega arith);
+  written = slots_more c.args.letters.now.x c.loop-p.p c.loop-p.letters.x _ _ _ c.loop-p.invariant.written c.loop-p.invariant.next
+      c.in_ok-write_slot.ensures.lines;
+  next = steps_go_on c.args.letters.now.x (3200 * c.loop-p.p) 3200 (3200 * (c.loop-p.p + 1)) _ _ c.loop-p.invariant.next c.in_ok-write_slot.ensures.next
+      (omega arith);
   few = omega arith;
 }
 

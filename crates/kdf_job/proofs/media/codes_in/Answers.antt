@@ -12,7 +12,8 @@ loop-byte-init c = record {
 pub returns-in-None-clause-value : goal.returns-in-None-clause-value
 returns-in-None-clause-value c =
     let here = c.loop-byte in
-    sym (here.invariant.read ∙ codes_none here.codes.items c.args.text.now here.byte-index _ c.loop-byte-test.true refl (sym c.to_code.ensures.value ∙ c.in-None.is))
+    sym (here.invariant.read ∙ codes_none here.codes.items c.args.text.now here.byte-index _ c.loop-byte-test.true refl (sym c.to_code.ensures.value
+    ∙ c.in-None.is))
 
 pub loop-byte-preserved : goal.loop-byte-preserved
 loop-byte-preserved c =

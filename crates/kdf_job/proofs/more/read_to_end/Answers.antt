@@ -57,4 +57,5 @@ pub returns-else-is_over-clause-fault : goal.returns-else-is_over-clause-fault
 returns-else-is_over-clause-fault c =
     let here = c.loop-place in
     here.invariant.fault
-    ∙ not_over here.lines here.place here.schedule.events.items c.is_over.result c.goes_on.result here.invariant.stands c.goes_on.ensures (search rules) c.is_over.ensures (search rules)
+    ∙ not_over here.lines here.place here.schedule.events.items c.is_over.result c.goes_on.result here.invariant.stands c.goes_on.ensures
+    (search rules) c.is_over.ensures (search rules)

@@ -9,7 +9,8 @@ use Rattle.kdf_job.proofs.more.read_to_end.Given as goal
 
 abbrev pub invariant-loop-place : goal.invariant-loop-place
 invariant-loop-place l = record {
-  fault : fault_from l.fn.lines.number (scheduled InSchedule l.fn.schedule.events.items) (ahead l.fn.lines) ≡ fault_from l.lines.number (scheduled l.place l.schedule.events.items) (ahead l.lines);
+  fault : fault_from l.fn.lines.number (scheduled InSchedule l.fn.schedule.events.items) (ahead l.fn.lines) ≡ fault_from l.lines.number
+      (scheduled l.place l.schedule.events.items) (ahead l.lines);
   events : l.fn.schedule.events.items ++ events_in (ahead l.fn.lines) ≡ l.schedule.events.items ++ events_in (ahead l.lines);
   stands : IsInSchedule l.place;
   sound : IsSchedule l.schedule.events.items;

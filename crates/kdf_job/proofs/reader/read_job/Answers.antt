@@ -33,16 +33,19 @@ pub returns-clause-ok : goal.returns-clause-ok
 returns-clause-ok c =
     let here = c.loop-lines in
     let none : eqb (length here.lines.rest.now) 0 ≡ true = search rules in
-    subst (λ (o : Option (JobFault × ℕ)). OnOk c.finish.result (o ≡ None)) (sym (fault_ends c.args.bytes.now here.lines (shown_draft here.draft) here.invariant.fault none)) c.finish.ensures.ok
+    subst (λ (o : Option (JobFault × ℕ)). OnOk c.finish.result (o ≡ None))
+    (sym (fault_ends c.args.bytes.now here.lines (shown_draft here.draft) here.invariant.fault none)) c.finish.ensures.ok
 
 pub returns-clause-fault : goal.returns-clause-fault
 returns-clause-fault c =
     let here = c.loop-lines in
     let none : eqb (length here.lines.rest.now) 0 ≡ true = search rules in
-    subst (λ (o : Option (JobFault × ℕ)). IfErr c.finish.result (λ e. Says e o)) (sym (fault_ends c.args.bytes.now here.lines (shown_draft here.draft) here.invariant.fault none)) c.finish.ensures.fault
+    subst (λ (o : Option (JobFault × ℕ)). IfErr c.finish.result (λ e. Says e o))
+    (sym (fault_ends c.args.bytes.now here.lines (shown_draft here.draft) here.invariant.fault none)) c.finish.ensures.fault
 
 pub returns-clause-shown : goal.returns-clause-shown
 returns-clause-shown c =
     let here = c.loop-lines in
     let none : eqb (length here.lines.rest.now) 0 ≡ true = search rules in
-    subst (λ (x : Job). IfOk c.finish.result (λ j. shown_job j ≡ x)) (sym (job_ends c.args.bytes.now here.lines (shown_draft here.draft) here.invariant.job none)) c.finish.ensures.shown
+    subst (λ (x : Job). IfOk c.finish.result (λ j. shown_job j ≡ x))
+    (sym (job_ends c.args.bytes.now here.lines (shown_draft here.draft) here.invariant.job none)) c.finish.ensures.shown

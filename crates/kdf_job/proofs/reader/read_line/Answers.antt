@@ -13,7 +13,8 @@ take_line-requires-clause-fits c =
 pub returns-in-Ok-clause-pass : goal.returns-in-Ok-clause-pass
 returns-in-Ok-clause-pass c =
     let at = c.take_line-line in
-    passes c.args.lines.now at.new.self c.args.draft.now c.take_line.new.self at.result.text.now at.ensures.text c.requires.some at.ensures.rest at.ensures.next at.ensures.within
+    passes c.args.lines.now at.new.self c.args.draft.now c.take_line.new.self at.result.text.now at.ensures.text c.requires.some at.ensures.rest
+    at.ensures.next at.ensures.within
     c.requires.fits c.in-Ok.ensures
 
 pub returns-in-Ok-clause-bytes : goal.returns-in-Ok-clause-bytes

@@ -10,7 +10,8 @@ loop-statement-preserved c =
     record {
       near = omega (arith, c.loop-statement.invariant.near, c.after-here.ensures.near);
       all =
-          grown constants c.loop-statement.constants.items c.push_constant.new.constants.items (constant_at s.what here.section s.place) here c.after-here.result
+          grown constants c.loop-statement.constants.items c.push_constant.new.constants.items (constant_at s.what here.section s.place) here
+          c.after-here.result
           c.loop-statement.statement-index c.args.statements.now s _ c.loop-statement-test.true c.statement-item.is c.after-here.ensures.value refl
           c.in_ok-push_constant.ensures c.loop-statement.invariant.all;
     }

@@ -15,7 +15,9 @@ loop-i-preserved g c =
     let stood = c.stood_before.ensures in
     elim c.if-stood_before.branch [
       | then-stood_before w ↦
-          rw w.best-is (twice-step c.args.fault c.loop-i.best w.with_fault-best.result i es e true lt is (sym w.if-stood_before.true ∙ stood) w.with_fault-best.ensures ∙ c.loop-i.invariant)
+          rw w.best-is (twice-step c.args.fault c.loop-i.best w.with_fault-best.result i es e true lt is (sym w.if-stood_before.true ∙ stood)
+          w.with_fault-best.ensures ∙ c.loop-i.invariant)
       | else-stood_before w ↦
-          rw w.best-is (twice-step c.args.fault c.loop-i.best c.loop-i.best i es e false lt is (sym w.if-stood_before.false ∙ stood) (sym (lesser-none number_of c.loop-i.best)) ∙ c.loop-i.invariant)
+          rw w.best-is (twice-step c.args.fault c.loop-i.best c.loop-i.best i es e false lt is (sym w.if-stood_before.false ∙ stood)
+          (sym (lesser-none number_of c.loop-i.best)) ∙ c.loop-i.invariant)
     ]

@@ -19,7 +19,8 @@ returns-in-Some c =
     let more : c.loop-d.d ≡ suc (c.loop-d.d - 1) = omega (arith, c.loop-d-test.true) in
     let lt : c.loop-d.d - 1 < length c.args.places.now = omega (arith, c.requires, c.loop-d.invariant.within, c.loop-d-test.true) in
     out_here (leases_of (map spot_of c.args.places.now)) c.args.place c.loop-d.d (c.loop-d.d - 1) c.in-Some.word more
-    (sym c.in-Some.is ∙ lent_is c.args.places.now c.args.place (c.loop-d.d - 1) c.index-places-d.result c.lent.result (c.index-places-d.is ∙ get_or_default c.args.places.now (c.loop-d.d - 1) _ Absent lt) c.lent.ensures)
+    (sym c.in-Some.is ∙ lent_is c.args.places.now c.args.place (c.loop-d.d - 1) c.index-places-d.result c.lent.result
+    (c.index-places-d.is ∙ get_or_default c.args.places.now (c.loop-d.d - 1) _ Absent lt) c.lent.ensures)
     ∙ sym c.loop-d.invariant.same
 
 pub loop-d-preserved : goal.loop-d-preserved
@@ -31,5 +32,6 @@ loop-d-preserved c =
       same =
           c.loop-d.invariant.same
           ∙ out_below (leases_of (map spot_of c.args.places.now)) c.args.place c.loop-d.d (c.loop-d.d - 1) more
-          (sym c.in_default.is ∙ lent_is c.args.places.now c.args.place (c.loop-d.d - 1) c.index-places-d.result c.lent.result (c.index-places-d.is ∙ get_or_default c.args.places.now (c.loop-d.d - 1) _ Absent lt) c.lent.ensures);
+          (sym c.in_default.is ∙ lent_is c.args.places.now c.args.place (c.loop-d.d - 1) c.index-places-d.result c.lent.result
+          (c.index-places-d.is ∙ get_or_default c.args.places.now (c.loop-d.d - 1) _ Absent lt) c.lent.ensures);
     }

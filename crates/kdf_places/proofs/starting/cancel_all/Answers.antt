@@ -13,14 +13,18 @@ loop-place-init c =
     }
 
 pub cancel-requires : goal.cancel-requires
-cancel-requires c = back_last c.loop-place.store c.loop-place.places.items c.pop.new.self.items c.in-Some.place c.in-Some.ensures.items c.loop-place.invariant.few c.loop-place.invariant.sound
+cancel-requires c = back_last c.loop-place.store c.loop-place.places.items c.pop.new.self.items c.in-Some.place c.in-Some.ensures.items
+    c.loop-place.invariant.few c.loop-place.invariant.sound
 
 pub loop-place-preserved : goal.loop-place-preserved
 loop-place-preserved c =
     record {
       few = omega (arith, c.loop-place.invariant.few, c.pop.ensures.len);
-      sound = subst (λ cells. IsSound (left_in cells c.pop.new.self.items)) (sym c.cancel.ensures) (sound_left c.loop-place.store c.loop-place.places.items c.pop.new.self.items c.in-Some.place c.in-Some.ensures.items c.loop-place.invariant.few c.loop-place.invariant.sound);
+      sound = subst (λ cells. IsSound (left_in cells c.pop.new.self.items)) (sym c.cancel.ensures)
+          (sound_left c.loop-place.store c.loop-place.places.items c.pop.new.self.items c.in-Some.place c.in-Some.ensures.items c.loop-place.invariant.few
+          c.loop-place.invariant.sound);
     }
 
 pub returns : goal.returns
-returns c = all_back c.loop-place.store c.loop-place.places.items (none_of c.loop-place.places.items (omega (arith, c.loop-place.places.ok, c.in_default.ensures.cases.0))) c.loop-place.invariant.sound
+returns c = all_back c.loop-place.store c.loop-place.places.items
+    (none_of c.loop-place.places.items (omega (arith, c.loop-place.places.ok, c.in_default.ensures.cases.0))) c.loop-place.invariant.sound

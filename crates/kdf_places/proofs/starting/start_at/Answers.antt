@@ -12,7 +12,8 @@ begin_place-begun-requires-clause-free c =
 
 pub begin_place-begun-requires-clause-kind : goal.begin_place-begun-requires-clause-kind
 begin_place-begun-requires-clause-kind c =
-    ap (λ s. is_kind (kind_of c.args.start.order) (spot_kind s)) (spot_known c.args.places.now.items c.args.d c.exchange-place.result c.exchange-place.ensures.was)
+    ap (λ s. is_kind (kind_of c.args.start.order) (spot_kind s))
+    (spot_known c.args.places.now.items c.args.d c.exchange-place.result c.exchange-place.ensures.was)
     ∙ c.requires.kind
 
 pub begin_place-begun-requires-clause-ready : goal.begin_place-begun-requires-clause-ready
@@ -24,13 +25,15 @@ begin_place-begun-requires-clause-dry c = ap ring_in c.exchange-place.ensures.wa
 pub returns-clause-spots : goal.returns-clause-spots
 returns-clause-spots c =
     let s = c.args.start in
-    exchanged c.args.places.now.items c.exchange-place.new.places.items c.exchange-absent.new.places.items c.args.d c.exchange-place.result c.begin_place-begun.result
+    exchanged c.args.places.now.items c.exchange-place.new.places.items c.exchange-absent.new.places.items c.args.d c.exchange-place.result
+    c.begin_place-begun.result
     (start_spot s.p s.order s.area.first s.area.last c.args.store.now)
     c.exchange-place.ensures.put c.exchange-absent.ensures.put c.exchange-place.ensures.was c.begin_place-begun.ensures.spot
 
 pub leave-requires : goal.leave-requires
 leave-requires c =
-    nothing_there c.args.places.now.items c.exchange-place.new.places.items c.args.d c.exchange-absent.result c.requires.there c.exchange-place.ensures.put c.exchange-absent.ensures.was
+    nothing_there c.args.places.now.items c.exchange-place.new.places.items c.args.d c.exchange-absent.result c.requires.there c.exchange-place.ensures.put
+    c.exchange-absent.ensures.was
 
 pub returns-clause-dry : goal.returns-clause-dry
 returns-clause-dry c =

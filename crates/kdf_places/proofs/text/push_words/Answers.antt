@@ -11,7 +11,8 @@ word_there-word-requires c =
 
 pub push_codes-requires : goal.push_codes-requires
 push_codes-requires c =
-    let counted : length c.loop-i.block.items ≡ 8 * c.loop-i.i = ap length c.loop-i.invariant.block ∙ length-text (word_here c.args.store.now) c.args.first c.loop-i.i in
+    let counted : length c.loop-i.block.items ≡ 8 * c.loop-i.i = ap length c.loop-i.invariant.block
+    ∙ length-text (word_here c.args.store.now) c.args.first c.loop-i.i in
     omega (arith, counted, c.requires.room, c.loop-i.invariant.room, c.loop-i.block.ok.0)
 
 pub loop-i-preserved : goal.loop-i-preserved

@@ -7,11 +7,13 @@ passes-requires g c = c.requires c.loop-d.d c.loop-d-test.true
 
 pub returns-then-passes-clause-least : goal.returns-then-passes-clause-least
 returns-then-passes-clause-least g c = λ test is.
-    sym (c.loop-d.invariant test is ∙ found_here test c.loop-d.d 16 c.loop-d-test.true (sym (is c.loop-d.d c.passes.result c.loop-d-test.true c.passes.ensures) ∙ c.if-passes.true))
+    sym (c.loop-d.invariant test is ∙ found_here test c.loop-d.d 16 c.loop-d-test.true (sym (is c.loop-d.d c.passes.result c.loop-d-test.true c.passes.ensures)
+    ∙ c.if-passes.true))
 
 pub loop-d-preserved : goal.loop-d-preserved
 loop-d-preserved g c = λ test is.
-    c.loop-d.invariant test is ∙ found_behind test c.loop-d.d 16 c.loop-d-test.true (sym (is c.loop-d.d c.passes.result c.loop-d-test.true c.passes.ensures) ∙ c.if-passes.false)
+    c.loop-d.invariant test is ∙ found_behind test c.loop-d.d 16 c.loop-d-test.true (sym (is c.loop-d.d c.passes.result c.loop-d-test.true c.passes.ensures)
+    ∙ c.if-passes.false)
 
 pub returns-clause-least : goal.returns-clause-least
 returns-clause-least g c = λ test is.

@@ -60,7 +60,8 @@ keep_word-requires-clause-room g c =
 
 pub returns-in-Keep : goal.returns-in-Keep
 returns-in-Keep g c =
-    subst (λ (p : Plan). Obeyed g.P.Port.acts (done_plan (g.P.Port.shows c.args.port.now) c.args.registers.now p) c.args.port.now c.keep_word.new.port c.keep_word.new.registers c.keep_word.result) (sym c.in-Keep.is) c.keep_word.ensures
+    subst (λ (p : Plan). Obeyed g.P.Port.acts (done_plan (g.P.Port.shows c.args.port.now) c.args.registers.now p) c.args.port.now c.keep_word.new.port
+    c.keep_word.new.registers c.keep_word.result) (sym c.in-Keep.is) c.keep_word.ensures
 
 pub count_orders-requires-clause-ran : goal.count_orders-requires-clause-ran
 count_orders-requires-clause-ran g c =
@@ -102,7 +103,8 @@ begin-requires-clause-room g c =
 
 pub returns-in-Begin : goal.returns-in-Begin
 returns-in-Begin g c =
-    subst (λ (p : Plan). Obeyed g.P.Port.acts (done_plan (g.P.Port.shows c.args.port.now) c.args.registers.now p) c.args.port.now c.begin.new.port c.begin.new.registers c.begin.result) (sym c.in-Begin.is) c.begin.ensures
+    subst (λ (p : Plan). Obeyed g.P.Port.acts (done_plan (g.P.Port.shows c.args.port.now) c.args.registers.now p) c.args.port.now c.begin.new.port
+    c.begin.new.registers c.begin.result) (sym c.in-Begin.is) c.begin.ensures
 
 pub examine-requires-clause-ran : goal.examine-requires-clause-ran
 examine-requires-clause-ran g c =
@@ -133,7 +135,8 @@ ask_busy-requires-clause-room g c =
 
 pub returns-in-AskBusy : goal.returns-in-AskBusy
 returns-in-AskBusy g c =
-    subst (λ (p : Plan). Obeyed g.P.Port.acts (done_plan (g.P.Port.shows c.args.port.now) c.args.registers.now p) c.args.port.now c.ask_busy.new.port c.ask_busy.new.registers c.ask_busy.result) (sym c.in-AskBusy.is) c.ask_busy.ensures
+    subst (λ (p : Plan). Obeyed g.P.Port.acts (done_plan (g.P.Port.shows c.args.port.now) c.args.registers.now p) c.args.port.now c.ask_busy.new.port
+    c.ask_busy.new.registers c.ask_busy.result) (sym c.in-AskBusy.is) c.ask_busy.ensures
 
 pub ask_area-requires-clause-ran : goal.ask_area-requires-clause-ran
 ask_area-requires-clause-ran g c =
@@ -149,7 +152,8 @@ ask_area-requires-clause-room g c =
 
 pub returns-in-AskArea : goal.returns-in-AskArea
 returns-in-AskArea g c =
-    subst (λ (p : Plan). Obeyed g.P.Port.acts (done_plan (g.P.Port.shows c.args.port.now) c.args.registers.now p) c.args.port.now c.ask_area.new.port c.ask_area.new.registers c.ask_area.result) (sym c.in-AskArea.is) c.ask_area.ensures
+    subst (λ (p : Plan). Obeyed g.P.Port.acts (done_plan (g.P.Port.shows c.args.port.now) c.args.registers.now p) c.args.port.now c.ask_area.new.port
+    c.ask_area.new.registers c.ask_area.result) (sym c.in-AskArea.is) c.ask_area.ensures
 
 pub ask_time-requires-clause-ran : goal.ask_time-requires-clause-ran
 ask_time-requires-clause-ran g c =
@@ -165,7 +169,8 @@ ask_time-requires-clause-room g c =
 
 pub returns-in-AskTime : goal.returns-in-AskTime
 returns-in-AskTime g c =
-    subst (λ (p : Plan). Obeyed g.P.Port.acts (done_plan (g.P.Port.shows c.args.port.now) c.args.registers.now p) c.args.port.now c.ask_time.new.port c.ask_time.new.registers c.ask_time.result) (sym c.in-AskTime.is) c.ask_time.ensures
+    subst (λ (p : Plan). Obeyed g.P.Port.acts (done_plan (g.P.Port.shows c.args.port.now) c.args.registers.now p) c.args.port.now c.ask_time.new.port
+    c.ask_time.new.registers c.ask_time.result) (sym c.in-AskTime.is) c.ask_time.ensures
 
 pub ask_service-requires-clause-ran : goal.ask_service-requires-clause-ran
 ask_service-requires-clause-ran g c =
@@ -181,11 +186,13 @@ ask_service-requires-clause-served g c =
 
 pub ask_service-requires-clause-room : goal.ask_service-requires-clause-room
 ask_service-requires-clause-room g c =
-    subst (λ (p : Plan). g.P.Port.room c.args.port.now (done_plan (g.P.Port.shows c.args.port.now) c.args.registers.now p).act) c.in-AskService.is c.requires.room
+    subst (λ (p : Plan). g.P.Port.room c.args.port.now (done_plan (g.P.Port.shows c.args.port.now) c.args.registers.now p).act) c.in-AskService.is
+    c.requires.room
 
 pub returns-in-AskService : goal.returns-in-AskService
 returns-in-AskService g c =
-    subst (λ (p : Plan). Obeyed g.P.Port.acts (done_plan (g.P.Port.shows c.args.port.now) c.args.registers.now p) c.args.port.now c.ask_service.new.port c.ask_service.new.registers c.ask_service.result) (sym c.in-AskService.is) c.ask_service.ensures
+    subst (λ (p : Plan). Obeyed g.P.Port.acts (done_plan (g.P.Port.shows c.args.port.now) c.args.registers.now p) c.args.port.now c.ask_service.new.port
+    c.ask_service.new.registers c.ask_service.result) (sym c.in-AskService.is) c.ask_service.ensures
 
 pub give_back-requires-clause-ran : goal.give_back-requires-clause-ran
 give_back-requires-clause-ran g c =
@@ -212,7 +219,8 @@ give_back-requires-clause-room g c =
 
 pub returns-in-GiveBack : goal.returns-in-GiveBack
 returns-in-GiveBack g c =
-    subst (λ (p : Plan). Obeyed g.P.Port.acts (done_plan (g.P.Port.shows c.args.port.now) c.args.registers.now p) c.args.port.now c.give_back.new.port c.give_back.new.registers c.give_back.result) (sym c.in-GiveBack.is) c.give_back.ensures
+    subst (λ (p : Plan). Obeyed g.P.Port.acts (done_plan (g.P.Port.shows c.args.port.now) c.args.registers.now p) c.args.port.now c.give_back.new.port
+    c.give_back.new.registers c.give_back.result) (sym c.in-GiveBack.is) c.give_back.ensures
 
 pub spool-requires-clause-ran : goal.spool-requires-clause-ran
 spool-requires-clause-ran g c =
@@ -245,7 +253,8 @@ spool-requires-clause-room g c =
 
 pub returns-in-Spool : goal.returns-in-Spool
 returns-in-Spool g c =
-    subst (λ (p : Plan). Obeyed g.P.Port.acts (done_plan (g.P.Port.shows c.args.port.now) c.args.registers.now p) c.args.port.now c.spool.new.port c.spool.new.registers c.spool.result) (sym c.in-Spool.is) c.spool.ensures
+    subst (λ (p : Plan). Obeyed g.P.Port.acts (done_plan (g.P.Port.shows c.args.port.now) c.args.registers.now p) c.args.port.now c.spool.new.port
+    c.spool.new.registers c.spool.result) (sym c.in-Spool.is) c.spool.ensures
 
 pub returns-in-Fail : goal.returns-in-Fail
 returns-in-Fail g c =
@@ -265,14 +274,16 @@ pub returns-in-Fetch : goal.returns-in-Fetch
 returns-in-Fetch g c =
     let port = c.args.port.now in
     let r = c.args.registers.now in
-    subst (λ (p : Plan). Obeyed g.P.Port.acts (done_plan (g.P.Port.shows port) r p) port port c.fetch_word.new.registers c.fetch_word.result) (sym c.in-Fetch.is)
+    subst (λ (p : Plan). Obeyed g.P.Port.acts (done_plan (g.P.Port.shows port) r p) port port c.fetch_word.new.registers c.fetch_word.result)
+    (sym c.in-Fetch.is)
     (record { step = c.fetch_word.ensures.step; registers = c.fetch_word.ensures.registers; acted = g.met.P.Port.stays port; unchanged = λ _. refl })
 
 pub returns-in-Count : goal.returns-in-Count
 returns-in-Count g c =
     let port = c.args.port.now in
     let r = c.args.registers.now in
-    subst (λ (p : Plan). Obeyed g.P.Port.acts (done_plan (g.P.Port.shows port) r p) port port c.count_orders.new.registers c.count_orders.result) (sym c.in-Count.is)
+    subst (λ (p : Plan). Obeyed g.P.Port.acts (done_plan (g.P.Port.shows port) r p) port port c.count_orders.new.registers c.count_orders.result)
+    (sym c.in-Count.is)
     (record { step = c.count_orders.ensures.step; registers = c.count_orders.ensures.registers; acted = g.met.P.Port.stays port; unchanged = λ _. refl })
 
 pub returns-in-Examine : goal.returns-in-Examine

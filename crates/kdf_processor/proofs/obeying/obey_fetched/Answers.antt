@@ -32,7 +32,8 @@ returns-in-Bad g c =
     let r = c.args.registers.now in
     let is = subst (IsFetchedAt v r.at) c.in-Bad.is c.requires.fetched in
     let so = outcome_there v r None is.held is.order in
-    let done = subst (λ (o : Outcome). Obeyed g.P.Port.acts o c.args.port.now c.obey_plan.new.port c.obey_plan.new.registers c.obey_plan.result) (sym so) c.obey_plan.ensures in
+    let done = subst (λ (o : Outcome). Obeyed g.P.Port.acts o c.args.port.now c.obey_plan.new.port c.obey_plan.new.registers c.obey_plan.result)
+    (sym so) c.obey_plan.ensures in
     record { step = done.step; registers = done.registers; acted = done.acted; unchanged = done.unchanged }
 
 pub obey_spelt-requires-clause-room : goal.obey_spelt-requires-clause-room
@@ -49,5 +50,6 @@ returns-in-Spelt g c =
     let r = c.args.registers.now in
     let is = subst (IsFetchedAt v r.at) c.in-Spelt.is c.requires.fetched in
     let so = outcome_there v r (first_decoded (c.in-Spelt.first ∷ c.in-Spelt.second ∷ c.in-Spelt.third ∷ [])) is.held is.order in
-    let done = subst (λ (o : Outcome). Obeyed g.P.Port.acts o c.args.port.now c.obey_spelt.new.port c.obey_spelt.new.registers c.obey_spelt.result) (sym so) c.obey_spelt.ensures in
+    let done = subst (λ (o : Outcome). Obeyed g.P.Port.acts o c.args.port.now c.obey_spelt.new.port c.obey_spelt.new.registers c.obey_spelt.result)
+    (sym so) c.obey_spelt.ensures in
     record { step = done.step; registers = done.registers; acted = done.acted; unchanged = done.unchanged }

@@ -12,7 +12,8 @@ returns-in-0-to-63-clause-obeyed g c =
     let range = c.in-0-to-63 in
     let is = of_one c.args.first c.args.second c.args.third _ c.decode_one.ensures.decoded (omega arith) in
     let new = c.obey_one.new in
-    subst (λ (o : Option Order). IfSome c.obey_one.result (λ _. Obeyed g.P.Port.acts (try_decoded (g.P.Port.shows c.args.port.now) c.args.registers.now o) c.args.port.now c.args.port.now new.registers Done))
+    subst (λ (o : Option Order). IfSome c.obey_one.result
+    (λ _. Obeyed g.P.Port.acts (try_decoded (g.P.Port.shows c.args.port.now) c.args.registers.now o) c.args.port.now c.args.port.now new.registers Done))
     is c.obey_one.ensures.obeyed
 
 pub returns-in-64-to-127-clause-obeyed : goal.returns-in-64-to-127-clause-obeyed
@@ -20,7 +21,8 @@ returns-in-64-to-127-clause-obeyed g c =
     let range = c.in-64-to-127 in
     let is = of_two c.args.first c.args.second c.args.third _ c.decode_two.ensures.decoded (omega arith) (omega arith) in
     let new = c.obey_two.new in
-    subst (λ (o : Option Order). IfSome c.obey_two.result (λ _. Obeyed g.P.Port.acts (try_decoded (g.P.Port.shows c.args.port.now) c.args.registers.now o) c.args.port.now new.port new.registers Done))
+    subst (λ (o : Option Order). IfSome c.obey_two.result
+    (λ _. Obeyed g.P.Port.acts (try_decoded (g.P.Port.shows c.args.port.now) c.args.registers.now o) c.args.port.now new.port new.registers Done))
     is c.obey_two.ensures.obeyed
 
 pub returns-in-128-to-191-clause-obeyed : goal.returns-in-128-to-191-clause-obeyed
@@ -28,7 +30,8 @@ returns-in-128-to-191-clause-obeyed g c =
     let range = c.in-128-to-191 in
     let is = of_jump c.args.first c.args.second c.args.third _ c.decode_jump.ensures.decoded (omega arith) (omega arith) in
     let new = c.obey_going.new in
-    subst (λ (o : Option Order). IfSome c.obey_going.result (λ _. Obeyed g.P.Port.acts (try_decoded (g.P.Port.shows c.args.port.now) c.args.registers.now o) c.args.port.now c.args.port.now new.registers Done))
+    subst (λ (o : Option Order). IfSome c.obey_going.result
+    (λ _. Obeyed g.P.Port.acts (try_decoded (g.P.Port.shows c.args.port.now) c.args.registers.now o) c.args.port.now c.args.port.now new.registers Done))
     is c.obey_going.ensures.obeyed
 
 pub returns-in-192-to-255-clause-obeyed : goal.returns-in-192-to-255-clause-obeyed
@@ -36,5 +39,6 @@ returns-in-192-to-255-clause-obeyed g c =
     let range = c.in-192-to-255 in
     let is = of_store c.args.first c.args.second c.args.third _ c.decode_store.ensures.decoded (omega arith) in
     let new = c.obey_store.new in
-    subst (λ (o : Option Order). IfSome c.obey_store.result (λ _. Obeyed g.P.Port.acts (try_decoded (g.P.Port.shows c.args.port.now) c.args.registers.now o) c.args.port.now new.port new.registers Done))
+    subst (λ (o : Option Order). IfSome c.obey_store.result
+    (λ _. Obeyed g.P.Port.acts (try_decoded (g.P.Port.shows c.args.port.now) c.args.registers.now o) c.args.port.now new.port new.registers Done))
     is c.obey_store.ensures.obeyed

@@ -11,7 +11,8 @@ returns-clause-obeyed g c =
       stays = kept.keeps;
       obeyed =
           subst
-          (λ (o : Outcome). Obeyed g.P.Port.acts o c.make_room.new.port c.obey_fetched-step.new.port c.obey_fetched-step.new.registers c.obey_fetched-step.result)
+          (λ (o : Outcome). Obeyed g.P.Port.acts o c.make_room.new.port c.obey_fetched-step.new.port c.obey_fetched-step.new.registers
+          c.obey_fetched-step.result)
           (ap (λ v. outcome v c.args.registers.now) kept.shows)
           (record { step = done.step; registers = done.registers; acted = done.acted; unchanged = done.unchanged });
     }

@@ -9,6 +9,7 @@ write_shows-requires g c = rw (c.deref.ensures.value, c.requires.size) c.require
 pub returns : goal.returns
 returns g c =
     on_ok_weaker c.write_stints.result
-    (section_text (shown_slot c.args.slot.now) (g.P.Program.state c.args.program.now) _ _ _ _ _ _ _ _ _ _ c.requires.devices c.registers.ensures c.deref.ensures.value c.spooled.ensures
+    (section_text (shown_slot c.args.slot.now) (g.P.Program.state c.args.program.now) _ _ _ _ _ _ _ _ _ _ c.requires.devices c.registers.ensures
+    c.deref.ensures.value c.spooled.ensures
     c.in_ok-write_slot.ensures c.in_ok-write_registers.ensures c.in_ok-write_shows.ensures c.in_ok-write_spooled.ensures c.in_ok-write_devices.ensures)
     c.write_stints.ensures

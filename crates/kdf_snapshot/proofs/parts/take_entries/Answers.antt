@@ -21,7 +21,8 @@ loop-number-init c =
 
 pub returns-then-eq-clause-passed : goal.returns-then-eq-clause-passed
 returns-then-eq-clause-passed c =
-    passed-more (length c.loop-number.entries.items) 1 c.args.at.now c.loop-number.at c.take_line-line.new.self c.loop-number.invariant.passed c.take_line-line.ensures.passed
+    passed-more (length c.loop-number.entries.items) 1 c.args.at.now c.loop-number.at c.take_line-line.new.self c.loop-number.invariant.passed
+    c.take_line-line.ensures.passed
 
 pub loop-number-preserved : goal.loop-number-preserved
 loop-number-preserved c =
@@ -37,11 +38,13 @@ loop-number-preserved c =
     record {
       passed = subst (λ (n : ℕ). Passed n c.args.at.now new) (sym more) (passed-more (length es) 1 c.args.at.now at new c.loop-number.invariant.passed p);
       told = c.loop-number.invariant.told
-          ∙ entry-read es at.lines.number new.lines.number (ahead at.lines) (ahead new.lines) c.take_line-line.result.now c.in-Some.entry (some_ahead at.lines.rest.now some) c.take_line-line.ensures.text p.rest p.number isnt is
+          ∙ entry-read es at.lines.number new.lines.number (ahead at.lines) (ahead new.lines) c.take_line-line.result.now c.in-Some.entry
+          (some_ahead at.lines.rest.now some) c.take_line-line.ensures.text p.rest p.number isnt is
           ∙ ap (λ (fs : List Entry). after fs (entries_from new.lines.number (ahead new.lines))) (sym pushed);
     }
 
 pub returns-clause-fault : goal.returns-clause-fault
 returns-clause-fault c =
     c.loop-number.invariant.told
-    ∙ ap (λ (ls : List (List ℕ)). after c.loop-number.entries.items (entries_from c.loop-number.at.lines.number ls)) (no-lines c.loop-number.at.lines.rest.now (search rules))
+    ∙ ap (λ (ls : List (List ℕ)). after c.loop-number.entries.items (entries_from c.loop-number.at.lines.number ls))
+    (no-lines c.loop-number.at.lines.rest.now (search rules))

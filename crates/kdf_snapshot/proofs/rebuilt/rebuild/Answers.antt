@@ -14,7 +14,8 @@ returns-clause-journal c =
     let slots : List SlotJob = map shown_slot job.slots.items in
     let images : List (List ℕ) = map (λ (x : Image). x.words.items) c.args.images.now in
     unserved-ok _ (slots_of slots images) (unserved-loaded slots images c.requires.unserved) (take c.args.first job.events.items)
-    (rising-front 0 c.args.first job.events.items schedule.rising schedule.each) c.rebuild_with.result c.rebuild_with.ensures.slots c.rebuild_with.ensures.journal (λ n a b lt p q. search rules)
+    (rising-front 0 c.args.first job.events.items schedule.rising schedule.each) c.rebuild_with.result c.rebuild_with.ensures.slots
+    c.rebuild_with.ensures.journal (λ n a b lt p q. search rules)
 
 pub returns-clause-refused : goal.returns-clause-refused
 returns-clause-refused c =
@@ -23,4 +24,5 @@ returns-clause-refused c =
     let slots : List SlotJob = map shown_slot job.slots.items in
     let images : List (List ℕ) = map (λ (x : Image). x.words.items) c.args.images.now in
     unserved-err _ (slots_of slots images) (unserved-loaded slots images c.requires.unserved) (take c.args.first job.events.items)
-    (rising-front 0 c.args.first job.events.items schedule.rising schedule.each) c.args.entries.now c.rebuild_with.result c.rebuild_with.ensures.refused (λ n a b lt p q. search rules)
+    (rising-front 0 c.args.first job.events.items schedule.rising schedule.each) c.args.entries.now c.rebuild_with.result c.rebuild_with.ensures.refused
+    (λ n a b lt p q. search rules)

@@ -7,4 +7,5 @@ use Rattle.kdf_snapshot.proofs.stores.write_store.Goals as goal
 pub loop-address-preserved : goal.loop-address-preserved
 loop-address-preserved c =
     let slot = c.args.slot.now in
-    one_more (λ a. word_lines slot.p a (word_at (state_at c.args.machine.now slot.p) a)) c.loop-address.address _ _ _ c.loop-address.invariant c.in_ok-write_word.ensures
+    one_more (λ a. word_lines slot.p a (word_at (state_at c.args.machine.now slot.p) a)) c.loop-address.address _ _ _ c.loop-address.invariant
+    c.in_ok-write_word.ensures

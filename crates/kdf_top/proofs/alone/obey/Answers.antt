@@ -9,7 +9,8 @@ use Rattle.kdf_top.proofs.alone.obey.Goals as goal
 pub alone_text-requires : goal.alone_text-requires
 alone_text-requires c =
     let slot = c.args.slot.now in
-    ran_from (shown_slot slot) (image_words slot.size slot.deck.items) [] c.args.orders c.args.program.now c.orders.new.self c.requires.slot c.requires.loaded c.in_ok-orders.ensures
+    ran_from (shown_slot slot) (image_words slot.size slot.deck.items) [] c.args.orders c.args.program.now c.orders.new.self c.requires.slot c.requires.loaded
+    c.in_ok-orders.ensures
 
 pub returns : goal.returns
 returns c =

@@ -15,6 +15,7 @@ pub returns-clause-text : goal.returns-clause-text
 returns-clause-text g c =
     let bytes = c.args.text.now in
     map_ok _ _ c.verdict_on.result
-    (λ due said. verdict_of (λ n a. goal.F-post g c.args.service.now n a) bytes (shown_job c.in_ok-job.job) c.rest.result.now due.items c.in_ok-job.ensures.shown
+    (λ due said. verdict_of (λ n a. goal.F-post g c.args.service.now n a) bytes (shown_job c.in_ok-job.job) c.rest.result.now due.items
+    c.in_ok-job.ensures.shown
     (c.rest.ensures ∙ ap (λ n. drop n bytes) c.in_ok-job.ensures.offset) said)
     c.verdict_on.ensures.text

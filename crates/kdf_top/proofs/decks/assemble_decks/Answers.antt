@@ -40,7 +40,8 @@ returns-in-Err-Fault-clause-fault c =
     let slot = c.slot-item.result in
     let lt : i < length slots = omega arith in
     let is : get_or slots i slot ≡ slot = search rules in
-    rw c.in-Err-Fault.field-0-is (c.loop-slot.invariant.first ∙ first-here slots i slot slot _ lt is (rw c.in-Err-Fault.field-0-is at c.in-Err-Fault.ensures.answer))
+    rw c.in-Err-Fault.field-0-is (c.loop-slot.invariant.first
+    ∙ first-here slots i slot slot _ lt is (rw c.in-Err-Fault.field-0-is at c.in-Err-Fault.ensures.answer))
 
 pub returns-clause-ok : goal.returns-clause-ok
 returns-clause-ok c = c.loop-slot.invariant.first ∙ none-left c.args.slots.now c.loop-slot.slot-index (omega arith)

@@ -9,7 +9,8 @@ use Rattle.kdf_top.proofs.making.save.Goals as goal
 pub snapshot-text-requires : goal.snapshot-text-requires
 snapshot-text-requires g c =
     let loaded = c.in_ok-job.ensures.loaded in
-    programs (shown_job c.in_ok-job.job) c.in_ok-machine.machine loaded.well_formed.slots loaded.images.fits c.in_ok-machine.ensures.slots c.in_ok-machine.ensures.seen
+    programs (shown_job c.in_ok-job.job) c.in_ok-machine.machine loaded.well_formed.slots loaded.images.fits c.in_ok-machine.ensures.slots
+    c.in_ok-machine.ensures.seen
 
 pub returns-clause-made : goal.returns-clause-made
 returns-clause-made g c =

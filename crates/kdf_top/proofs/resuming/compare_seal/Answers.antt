@@ -16,7 +16,8 @@ returns-in-None-clause-same g c =
     let read = c.requires.0 in
     let loaded = read.loaded in
     same_seal g.bytes s read c.args.machine.now _ _ c.requires.1.1.1 c.deref.ensures.value
-    (c.deref-2.ensures.value ∙ c.in_ok-seal.ensures ∙ sealed_own (shown_job s.job) c.args.machine.now loaded.well_formed.slots loaded.images.fits c.requires.1.0 c.requires.1.1.0 (resumed_job g.bytes) loaded.told)
+    (c.deref-2.ensures.value ∙ c.in_ok-seal.ensures ∙ sealed_own (shown_job s.job) c.args.machine.now loaded.well_formed.slots loaded.images.fits
+    c.requires.1.0 c.requires.1.1.0 (resumed_job g.bytes) loaded.told)
     c.in-None.ensures.none
 
 pub returns-clause-other : goal.returns-clause-other
@@ -26,6 +27,7 @@ returns-clause-other g c =
     let loaded = read.loaded in (
       tt {0},
       other_seal g.bytes s read c.args.machine.now _ _ c.requires.1.1.1 c.deref.ensures.value
-          (c.deref-2.ensures.value ∙ c.in_ok-seal.ensures ∙ sealed_own (shown_job s.job) c.args.machine.now loaded.well_formed.slots loaded.images.fits c.requires.1.0 c.requires.1.1.0 (resumed_job g.bytes) loaded.told)
+          (c.deref-2.ensures.value ∙ c.in_ok-seal.ensures ∙ sealed_own (shown_job s.job) c.args.machine.now loaded.well_formed.slots loaded.images.fits
+          c.requires.1.0 c.requires.1.1.0 (resumed_job g.bytes) loaded.told)
           c.in-Some.place _ c.in-Some.ensures.some refl,
     )

@@ -10,7 +10,8 @@ returns-in_err-compare_seal-clause-reason g c =
     let saved = c.requires.1.1.1 in
     let p = err_from_is_err_and c.from_residual.result c.from_residual.ensures.1 in
     rw (p.1, p.2) (reason_for _ g.bytes c.args.machine.now.journal c.in_err-compare_seal.field-0.0
-    (journal_front g.bytes s c.requires.1.1.0 _ c.args.machine.now.slots c.args.machine.now.journal saved.slots saved.journal) c.in_err-compare_seal.ensures.other)
+    (journal_front g.bytes s c.requires.1.1.0 _ c.args.machine.now.slots c.args.machine.now.journal saved.slots saved.journal)
+    c.in_err-compare_seal.ensures.other)
 
 pub follow_on-requires-clause-rises : goal.follow_on-requires-clause-rises
 follow_on-requires-clause-rises g c =

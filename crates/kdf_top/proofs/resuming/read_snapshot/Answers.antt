@@ -79,14 +79,19 @@ overflow_add-seal_line-2 c =
 
 pub returns-clause-read : goal.returns-clause-read
 returns-clause-read c =
-    is_read c.args.text.now c.in_ok-job.end _ c.in_ok-parts.parts c.in_ok-job.ensures.offset (ap (λ n. n + 1) c.line_count-line.ensures) (rw c.rest-after.ensures at c.in_ok-parts.ensures.ok)
+    is_read c.args.text.now c.in_ok-job.end _ c.in_ok-parts.parts c.in_ok-job.ensures.offset (ap (λ n. n + 1) c.line_count-line.ensures)
+    (rw c.rest-after.ensures at c.in_ok-parts.ensures.ok)
     _ (shown_job c.in_ok-job.job) c.requires c.in_ok-job.ensures.within refl c.in_ok-job.ensures.ok c.in_ok-job.ensures.shown
     (rw c.rest-after.ensures at c.in_ok-parts.ensures.inside)
-    (rw (c.rest-further.ensures, c.rest-after.ensures) at c.in_ok-read_more.ensures.ok) (rw (c.rest-further.ensures, c.rest-after.ensures) at c.in_ok-read_more.ensures.joined)
-    (c.len-first.ensures ∙ c.in_ok-job.job.events.ok.0) c.in_ok-read_more.ensures.well_formed (rw c.deref.ensures.value at c.in_ok-images.ensures.images) (rw c.deref.ensures.value at c.in_ok-images.ensures.ok)
+    (rw (c.rest-further.ensures, c.rest-after.ensures) at c.in_ok-read_more.ensures.ok)
+    (rw (c.rest-further.ensures, c.rest-after.ensures) at c.in_ok-read_more.ensures.joined)
+    (c.len-first.ensures ∙ c.in_ok-job.job.events.ok.0) c.in_ok-read_more.ensures.well_formed (rw c.deref.ensures.value at c.in_ok-images.ensures.images)
+    (rw c.deref.ensures.value at c.in_ok-images.ensures.ok)
     (ap (λ n. c.line_count-line.result + 1 + n + 2) (c.len.ensures ∙ c.in_ok-parts.parts.entries.ok.0))
-    (c.in_ok-sealed.ensures.items ∙ c.part.ensures ∙ ap (λ bytes. take (c.in_ok-parts.parts.more_from - c.in_ok-parts.parts.seal_from) (drop c.in_ok-parts.parts.seal_from bytes)) c.rest-after.ensures)
+    (c.in_ok-sealed.ensures.items ∙ c.part.ensures
+    ∙ ap (λ bytes. take (c.in_ok-parts.parts.more_from - c.in_ok-parts.parts.seal_from) (drop c.in_ok-parts.parts.seal_from bytes)) c.rest-after.ensures)
 
 pub returns-clause-entries : goal.returns-clause-entries
 returns-clause-entries c =
-    entries_read c.args.text.now c.in_ok-job.end _ c.in_ok-parts.parts c.in_ok-job.ensures.offset (ap (λ n. n + 1) c.line_count-line.ensures) (rw c.rest-after.ensures at c.in_ok-parts.ensures.ok)
+    entries_read c.args.text.now c.in_ok-job.end _ c.in_ok-parts.parts c.in_ok-job.ensures.offset (ap (λ n. n + 1) c.line_count-line.ensures)
+    (rw c.rest-after.ensures at c.in_ok-parts.ensures.ok)

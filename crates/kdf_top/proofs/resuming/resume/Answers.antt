@@ -23,7 +23,8 @@ returns-in_err-machine-clause-reason g c =
     let is : c.deref.result.now ≡ g.bytes = c.deref.ensures.value ∙ c.requires.1.1.0 in
     let read = subst (λ (t : List ℕ). IsRead t c.in_ok-snapshot.snapshot) is c.in_ok-snapshot.ensures.read in
     let p = err_from_is_err_and c.from_residual-in_err-machine.result c.from_residual-in_err-machine.ensures.1 in
-    rw (p.1, p.2) (reason_called (λ n a. goal.F-post g c.args.service.now n a) g.bytes c.in_err-machine.field-0.0 read.snapshot read.loaded.assembles c.in_err-machine.ensures.reason)
+    rw (p.1, p.2) (reason_called (λ n a. goal.F-post g c.args.service.now n a) g.bytes c.in_err-machine.field-0.0 read.snapshot read.loaded.assembles
+    c.in_err-machine.ensures.reason)
 
 pub report-text-requires : goal.report-text-requires
 report-text-requires g c =
@@ -41,6 +42,8 @@ returns-clause-made g c =
     let loaded = read.loaded in
     let run = c.in_ok-machine.ensures.run in
     with_both _ _ m _ _ c.with_machine.ensures.text c.with_machine.ensures.machine c.report-text.ensures
-    (λ made text kept. made_with (λ n a. goal.F-post g c.args.service.now n a) Resume g.bytes read.snapshot loaded.assembles c.in_ok-machine.ensures.trusted made.text.items made.machine m kept refl
-    (machine_of j m loaded.well_formed.slots loaded.images.fits run.slots run.seen (resumed_job g.bytes) loaded.told (λ n a. goal.F-post g c.args.service.now n a) run.journal)
+    (λ made text kept. made_with (λ n a. goal.F-post g c.args.service.now n a) Resume g.bytes read.snapshot loaded.assembles c.in_ok-machine.ensures.trusted
+    made.text.items made.machine m kept refl
+    (machine_of j m loaded.well_formed.slots loaded.images.fits run.slots run.seen (resumed_job g.bytes) loaded.told
+    (λ n a. goal.F-post g c.args.service.now n a) run.journal)
     (report_own j m loaded.well_formed.slots loaded.images.fits run.slots run.seen (resumed_job g.bytes) loaded.told made.text.items text))

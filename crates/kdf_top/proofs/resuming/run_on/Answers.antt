@@ -16,7 +16,8 @@ go_on-requires g c =
     let s = c.args.snapshot.now in
     let made = c.in-Ok.ensures in
     λ lives within. pair within (pair c.requires.1.0 (pair c.requires.1.1.0 (record {
-      slots = (rw c.deref.ensures.value at made.slots) ∙ ap (λ (xs : List (List ℕ)). loading.slots_of (shown_job s.job).slots xs) (same_words s.job.slots.items s.images.items c.requires.1.1.0.loaded.images);
+      slots = (rw c.deref.ensures.value at made.slots) ∙ ap (λ (xs : List (List ℕ)). loading.slots_of (shown_job s.job).slots xs)
+          (same_words s.job.slots.items s.images.items c.requires.1.1.0.loaded.images);
       journal = made.journal;
       seen = made.seen;
       entries = made.entries ∙ c.deref-2.ensures.value ∙ c.requires.1.1.1;
@@ -29,7 +30,9 @@ returns-in-Err-Differs-clause-reason g c =
     let refused = rw (c.deref.ensures.value, c.deref-2.ensures.value) at (rw c.in-Err-Differs.field-0-is at c.in-Err-Differs.ensures.refused) in
     rw c.in-Err-Differs.field-0-is (
       tt {0},
-      other_journal g.bytes s c.requires.1.1.0 (λ n a. goal.F-post g c.args.service.now n a) _ c.args.entries.items refused.0 c.in-Err-Differs.place _ c.requires.1.1.1
-          (ap (λ (xs : List (List ℕ)). loading.slots_of (shown_job s.job).slots xs) (same_words s.job.slots.items s.images.items c.requires.1.1.0.loaded.images))
+      other_journal g.bytes s c.requires.1.1.0 (λ n a. goal.F-post g c.args.service.now n a) _ c.args.entries.items refused.0 c.in-Err-Differs.place _
+          c.requires.1.1.1
+          (ap (λ (xs : List (List ℕ)). loading.slots_of (shown_job s.job).slots xs)
+          (same_words s.job.slots.items s.images.items c.requires.1.1.0.loaded.images))
           refused.1 refused.2 refl,
     )

@@ -20,7 +20,8 @@ follow-requires-clause-rises g c = rw c.deref.ensures.value (rises 0 c.args.job.
 pub returns-in-Ok-clause-slots : goal.returns-in-Ok-clause-slots
 returns-in-Ok-clause-slots g c =
     c.in-Ok.ensures.slots ∙ c.in_ok-machine.ensures.slots
-    ∙ ap (λ (xs : List (List ℕ)). loading.slots_of (shown_job c.args.job.now).slots xs) (same_words c.args.job.now.slots.items c.args.images.now c.requires.images)
+    ∙ ap (λ (xs : List (List ℕ)). loading.slots_of (shown_job c.args.job.now).slots xs)
+    (same_words c.args.job.now.slots.items c.args.images.now c.requires.images)
 
 pub follow-requires-clause-in_range : goal.follow-requires-clause-in_range
 follow-requires-clause-in_range g c = rw c.deref.ensures.value c.requires.job.schedule.each

@@ -15,7 +15,9 @@ returns-in-Read-clause-untouched g c = λ none. absurd (let reads = reads_it c.a
 
 pub returns-in-Made-clause-run : goal.returns-in-Made-clause-run
 returns-in-Made-clause-run g c =
-    run_made _ c.args.command c.in-Made.n c.answer_made.result.status c.answer_made.result.machine _ _ _ (sym c.input.ensures ∙ c.in-Made.is) c.answer_made.ensures
+    run_made _ c.args.command c.in-Made.n c.answer_made.result.status c.answer_made.result.machine _ _ _ (sym c.input.ensures ∙ c.in-Made.is)
+    c.answer_made.ensures
 
 pub returns-in-Made-clause-steady_reads : goal.returns-in-Made-clause-steady_reads
-returns-in-Made-clause-steady_reads g c = λ _. no_read_fault (IsCalled (λ n a. goal.F-post g c.args.service.now n a) c.args.command (made_text c.in-Made.n)) _ _ c.answer_made.ensures.answer
+returns-in-Made-clause-steady_reads g c = λ _. no_read_fault (IsCalled (λ n a. goal.F-post g c.args.service.now n a) c.args.command (made_text c.in-Made.n)) _
+    _ c.answer_made.ensures.answer

@@ -15,7 +15,8 @@ returns-in-Err-Large-clause-run g c =
     rw c.refuse.ensures.machine
     (run_large _ c.args.command c.args.limit c.requires.input _ _ c.read_all.ensures.at_most c.read_all.ensures.never_falls
     c.refuse.result.status None _ _ (large_told c.args.limit _ _ (rw c.in-Err-Large.field-0-is at c.in-Err-Large.ensures).took_before)
-    (no_done _ _ c.refuse.ensures.refused.answer) (λ wanted bytes called only. given_refused _ wanted status.Large (Some c.args.command) bytes _ _ _ tt called only c.refuse.ensures.refused))
+    (no_done _ _ c.refuse.ensures.refused.answer)
+    (λ wanted bytes called only. given_refused _ wanted status.Large (Some c.args.command) bytes _ _ _ tt called only c.refuse.ensures.refused))
 
 pub returns-in-Err-Large-clause-steady_reads : goal.returns-in-Err-Large-clause-steady_reads
 returns-in-Err-Large-clause-steady_reads g c = λ _. no_read_fault (λ x. x ≡ status.Large) _ _ c.refuse.ensures.refused.answer

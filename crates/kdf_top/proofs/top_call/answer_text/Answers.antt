@@ -10,7 +10,8 @@ returns-in-Ok-write_all g c =
     let answers : ℕ → ℕ → Type 0 = λ n a. goal.F-post g c.args.service.now n a in
     let made : IsMade answers c.args.command c.args.text.items c.deref.result.now c.in-Ok.field-0.machine =
     subst (λ z. IsMade answers c.args.command c.args.text.items z c.in-Ok.field-0.machine) (sym c.deref.ensures.value) (rw c.in-Ok.is at c.make.ensures.made) in
-    given_made answers c.requires.service.one c.args.command c.args.text.items _ _ made _ _ c.in-Ok-write_all.ensures.all c.write_all.ensures.room_count c.write_all.ensures.never_falls
+    given_made answers c.requires.service.one c.args.command c.args.text.items _ _ made _ _ c.in-Ok-write_all.ensures.all c.write_all.ensures.room_count
+    c.write_all.ensures.never_falls
 
 pub returns-in-Ok : goal.returns-in-Ok
 returns-in-Ok g c =
@@ -26,8 +27,10 @@ returns-in-Err-Refused g c =
     let answers : ℕ → ℕ → Type 0 = λ n a. goal.F-post g c.args.service.now n a in
     let reason = rw c.in-Err-Refused.field-0-is at (rw c.in-Err-Refused.is at c.make.ensures.reason) in
     rw c.refuse.ensures.machine
-    (given_refused answers (IsCalled answers c.args.command c.args.text.items) c.in-Err-Refused.status (Some c.args.command) c.args.text.items _ _ _ reason.0 reason.1
-    (λ x called. one_called answers c.requires.service.one c.args.command c.args.text.items (status_of c.args.command c.args.text.items) x c.in-Err-Refused.status called reason.1)
+    (given_refused answers (IsCalled answers c.args.command c.args.text.items) c.in-Err-Refused.status (Some c.args.command) c.args.text.items _ _ _ reason.0
+    reason.1
+    (λ x called. one_called answers c.requires.service.one c.args.command c.args.text.items (status_of c.args.command c.args.text.items) x
+    c.in-Err-Refused.status called reason.1)
     c.refuse.ensures.refused)
 
 pub returns : goal.returns

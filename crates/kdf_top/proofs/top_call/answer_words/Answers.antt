@@ -9,7 +9,8 @@ pub returns-in-Ok-None-clause-run : goal.returns-in-Ok-None-clause-run
 returns-in-Ok-None-clause-run g c =
     let none : command (map string_bytes c.args.words.now) ≡ None = search rules in
     rw (none, c.refuse.ensures.machine)
-    (run_usage _ c.refuse.result.status None _ _ _ (λ bytes. given_refused _ (λ x. x ≡ status.Usage) status.Usage None bytes _ _ _ tt refl (λ x e. e) c.refuse.ensures.refused))
+    (run_usage _ c.refuse.result.status None _ _ _ (λ bytes. given_refused _ (λ x. x ≡ status.Usage) status.Usage None bytes _ _ _ tt refl
+    (λ x e. e) c.refuse.ensures.refused))
 
 pub returns-in-Ok-None-clause-steady_reads : goal.returns-in-Ok-None-clause-steady_reads
 returns-in-Ok-None-clause-steady_reads g c = λ _. no_read_fault (λ x. x ≡ status.Usage) _ _ c.refuse.ensures.refused.answer

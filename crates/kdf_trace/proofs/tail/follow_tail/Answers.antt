@@ -1,6 +1,7 @@
 use Rattle.std.proofs.Common.{◌-◌, ◌∷◌, [], ◌++◌, ◌∙◌, ap, arith, refl}
 use Rattle.kdf_schedule.specs.declared.event.Event.TheVariants.{Orders}
-use Rattle.kdf_trace.proofs.Tails.{all_calls, first_all, first_calls, first_count, first_few, first_rises, more_all, more_calls, more_count, more_few, more_rises, same_calls}
+use Rattle.kdf_trace.proofs.Tails.{all_calls, first_all, first_calls, first_count, first_few, first_rises, more_all, more_calls, more_count, more_few}
+use Rattle.kdf_trace.proofs.Tails.{more_rises, same_calls}
 use Rattle.kdf_trace.proofs.tail.follow_tail.Goals as goal
 
 pub follow-requires-clause-few : goal.follow-requires-clause-few
@@ -33,22 +34,28 @@ loop-call-init g c =
 
 pub follow_on-requires-clause-few : goal.follow_on-requires-clause-few
 follow_on-requires-clause-few g c =
-    more_few c.args.front.now c.args.n c.requires.few c.requires.more c.requires.rises c.requires.in_range c.loop-call.events.items c.deref-in-loop-call.result.now
+    more_few c.args.front.now c.args.n c.requires.few c.requires.more c.requires.rises c.requires.in_range c.loop-call.events.items
+    c.deref-in-loop-call.result.now
     c.loop-call.call c.loop-call-test.true (c.deref-in-loop-call.ensures.value ∙ c.in_ok-push-2.ensures.items) c.loop-call.invariant.count
 
 pub follow_on-requires-clause-rises : goal.follow_on-requires-clause-rises
 follow_on-requires-clause-rises g c =
-    more_rises c.args.front.now c.args.n c.requires.few c.requires.more c.requires.rises c.requires.in_range c.loop-call.events.items c.deref-in-loop-call.result.now
+    more_rises c.args.front.now c.args.n c.requires.few c.requires.more c.requires.rises c.requires.in_range c.loop-call.events.items
+    c.deref-in-loop-call.result.now
     c.loop-call.call c.loop-call-test.true (c.deref-in-loop-call.ensures.value ∙ c.in_ok-push-2.ensures.items) c.loop-call.invariant.rises
 
 pub loop-call-preserved : goal.loop-call-preserved
 loop-call-preserved g c =
     let is = c.in_ok-push-2.ensures.items in
     record {
-      calls = more_calls c.args.front.now c.args.n c.requires.few c.requires.more c.requires.rises c.requires.in_range c.loop-call.events.items c.push-in-loop-call.new.self.items c.loop-call.call c.loop-call-test.true is c.loop-call.invariant.calls;
-      count = more_count c.args.front.now c.args.n c.requires.few c.requires.more c.requires.rises c.requires.in_range c.loop-call.events.items c.push-in-loop-call.new.self.items c.loop-call.call c.loop-call-test.true is c.loop-call.invariant.count;
-      rises = more_rises c.args.front.now c.args.n c.requires.few c.requires.more c.requires.rises c.requires.in_range c.loop-call.events.items c.push-in-loop-call.new.self.items c.loop-call.call c.loop-call-test.true is c.loop-call.invariant.rises;
-      in_range = more_all c.args.front.now c.args.n c.requires.few c.requires.more c.requires.rises c.requires.in_range c.loop-call.events.items c.push-in-loop-call.new.self.items c.loop-call.call c.loop-call-test.true is c.loop-call.invariant.in_range;
+      calls = more_calls c.args.front.now c.args.n c.requires.few c.requires.more c.requires.rises c.requires.in_range c.loop-call.events.items
+          c.push-in-loop-call.new.self.items c.loop-call.call c.loop-call-test.true is c.loop-call.invariant.calls;
+      count = more_count c.args.front.now c.args.n c.requires.few c.requires.more c.requires.rises c.requires.in_range c.loop-call.events.items
+          c.push-in-loop-call.new.self.items c.loop-call.call c.loop-call-test.true is c.loop-call.invariant.count;
+      rises = more_rises c.args.front.now c.args.n c.requires.few c.requires.more c.requires.rises c.requires.in_range c.loop-call.events.items
+          c.push-in-loop-call.new.self.items c.loop-call.call c.loop-call-test.true is c.loop-call.invariant.rises;
+      in_range = more_all c.args.front.now c.args.n c.requires.few c.requires.more c.requires.rises c.requires.in_range c.loop-call.events.items
+          c.push-in-loop-call.new.self.items c.loop-call.call c.loop-call-test.true is c.loop-call.invariant.in_range;
       slots = c.in_ok-follow_on.ensures.slots ∙ c.loop-call.invariant.slots;
       journal = rw c.deref-in-loop-call.ensures.value at c.in_ok-follow_on.ensures.journal;
       seen = c.in_ok-follow_on.ensures.seen;

@@ -37,7 +37,8 @@ returns-then-is_input c =
     let l = c.args.lease.now in
     let f = fixture_of c.args.device.now in
     let p = progress_of c.args.device.now in
-    input_at o first last l f p c.args.i c.given_word.result (sym c.is_input.ensures ∙ c.if-is_input.true) (omega (arith, c.words_in-words.ensures.value, c.if-i-words.false)) c.given_word.ensures
+    input_at o first last l f p c.args.i c.given_word.result (sym c.is_input.ensures ∙ c.if-is_input.true)
+    (omega (arith, c.words_in-words.ensures.value, c.if-i-words.false)) c.given_word.ensures
 
 pub overflow_add-area : goal.overflow_add-area
 overflow_add-area c = omega (arith, within (goal.at.overflow_add-area c).In-Some, (covers (goal.at.overflow_add-area c).In-Some).few)

@@ -20,12 +20,14 @@ returns-then-is_last-clause-given c =
 pub returns-in-None-clause-value : goal.returns-in-None-clause-value
 returns-in-None-clause-value c =
     let g = given c.args.order (fixture_of c.args.device.now) (progress_of c.args.device.now) in
-    sym (count_none c.args.order (take c.args.words g) c.loop-i.i (cut_at c.args.words c.loop-i.i g c.loop-i-test.true ∙ sym c.in-None.ensures) c.loop-i.invariant)
+    sym (count_none c.args.order (take c.args.words g) c.loop-i.i (cut_at c.args.words c.loop-i.i g c.loop-i-test.true ∙ sym c.in-None.ensures)
+    c.loop-i.invariant)
 
 pub returns-in-None-clause-given : goal.returns-in-None-clause-given
 returns-in-None-clause-given c =
     let g = given c.args.order (fixture_of c.args.device.now) (progress_of c.args.device.now) in
-    let e = count_none c.args.order (take c.args.words g) c.loop-i.i (cut_at c.args.words c.loop-i.i g c.loop-i-test.true ∙ sym c.in-None.ensures) c.loop-i.invariant in
+    let e = count_none c.args.order (take c.args.words g) c.loop-i.i (cut_at c.args.words c.loop-i.i g c.loop-i-test.true ∙ sym c.in-None.ensures)
+    c.loop-i.invariant in
     omega (arith, e, stopped-le c.args.order (take c.args.words g), length-take c.args.words g)
 
 pub returns-clause-value : goal.returns-clause-value

@@ -11,7 +11,8 @@ pub push_codes-requires : goal.push_codes-requires
 push_codes-requires c =
     let ws = c.args.words.now in
     let fits : 8 * length ws ≤ vec_capacity c.loop-word.block = omega (arith, c.requires.room, c.loop-word.invariant.room) in
-    let h = room_for c.loop-word.block.items ws c.loop-word.word-index (vec_capacity c.loop-word.block) c.loop-word.invariant.block c.loop-word-test.true fits in
+    let h = room_for c.loop-word.block.items ws c.loop-word.word-index (vec_capacity c.loop-word.block) c.loop-word.invariant.block c.loop-word-test.true fits
+    in
     omega (arith, h, c.loop-word.block.ok.0)
 
 pub loop-word-preserved : goal.loop-word-preserved
@@ -36,7 +37,8 @@ returns-then-is_last c =
     let is : w ≡ get_or ws i 0 = c.word-item.is ∙ get_or_default ws i w 0 c.loop-word-test.true in
     c.push_codes.ensures.items ∙ ap (λ xs. xs ++ codes_of w) c.loop-word.invariant.block
     ∙ codes_more ws i w c.loop-word-test.true is
-    ∙ ap codes_of_all (sym (sent_last c.args.order ws i w c.requires.output c.loop-word-test.true is (sym c.is_last.ensures ∙ c.if-is_last.true) c.loop-word.invariant.sent))
+    ∙ ap codes_of_all (sym (sent_last c.args.order ws i w c.requires.output c.loop-word-test.true is (sym c.is_last.ensures ∙ c.if-is_last.true)
+    c.loop-word.invariant.sent))
 
 pub returns : goal.returns
 returns c =

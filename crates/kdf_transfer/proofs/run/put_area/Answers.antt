@@ -28,4 +28,5 @@ returns c =
     let n : ℕ = length c.args.block.now / 8 in
     let many = length-map-range_with_len (lent_word l) first n in
     let past : n ≤ c.loop-i.i = omega (arith, c.loop-i-test.false) in
-    codes_all c.loop-i.block (lent_words l first n) c.loop-i.i c.loop-i.invariant.block (omega (arith, c.loop-i.invariant.size, c.requires.whole)) (omega (arith, many))
+    codes_all c.loop-i.block (lent_words l first n) c.loop-i.i c.loop-i.invariant.block (omega (arith, c.loop-i.invariant.size, c.requires.whole))
+    (omega (arith, many))

@@ -33,8 +33,11 @@ loop-i-preserved c =
       lease =
           c.write.ensures.written
           ∙ ap (λ k. with_lent_word k (last - i) w) c.loop-i.invariant.lease
-          ∙ down_next codes last total from i w c.args.lease.now above below given (c.of_codes.ensures ∙ ap first_word (take_all (length codes - at) (drop at codes) (omega (arith, length-drop at codes))) ∙ ap (λ k. first_word (drop (8 * (k - 1 - i)) codes)) count);
-      covers = subst (λ k. Covers (Some k) c.args.area.first c.args.area.last) (sym c.write.ensures.written) (covers-written true (last - i) w c.args.area.first c.args.area.last (Some c.loop-i.lease) c.loop-i.invariant.covers);
+          ∙ down_next codes last total from i w c.args.lease.now above below given
+          (c.of_codes.ensures ∙ ap first_word (take_all (length codes - at) (drop at codes) (omega (arith, length-drop at codes)))
+          ∙ ap (λ k. first_word (drop (8 * (k - 1 - i)) codes)) count);
+      covers = subst (λ k. Covers (Some k) c.args.area.first c.args.area.last) (sym c.write.ensures.written)
+          (covers-written true (last - i) w c.args.area.first c.args.area.last (Some c.loop-i.lease) c.loop-i.invariant.covers);
     }
 
 pub returns : goal.returns
@@ -43,7 +46,15 @@ returns c =
     let last = c.args.area.last in
     let from : ℕ = c.args.from in
     let total : ℕ = c.args.total in
-    let all : c.loop-i.i ≡ total = omega (arith, c.loop-i-test.false, c.loop-i.auto.i-end, c.loop-i.auto.i, c.from-i-end.ensures, c.from-i.ensures, c.requires.from) in
+    let all : c.loop-i.i ≡ total = omega (
+      arith,
+      c.loop-i-test.false,
+      c.loop-i.auto.i-end,
+      c.loop-i.auto.i,
+      c.from-i-end.ensures,
+      c.from-i.ensures,
+      c.requires.from,
+    ) in
     c.loop-i.invariant.lease
     ∙ ap (λ k. put_words (take (k - from) (drop from (down_addresses last (take total (reverse (words_of codes)))))) c.args.lease.now) all
     ∙ down_all (reverse (words_of codes)) last total from c.args.lease.now

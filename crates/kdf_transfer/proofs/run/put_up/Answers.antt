@@ -22,9 +22,16 @@ loop-i-preserved c =
       lease =
           c.write_codes.ensures.written
           ∙ ap (λ k. with_lent_words k (first + i) (take n (words_of (take (length codes - 8 * i) (drop (8 * i) codes))))) c.loop-i.invariant.lease
-          ∙ ap (λ xs. with_lent_words (put_words (take (i - from) (drop from (at_addresses first (take total (words_of codes))))) c.args.lease.now) (first + i) (take n (words_of xs))) (take_all (length codes - 8 * i) (drop (8 * i) codes) (omega (arith, length-drop (8 * i) codes)))
+          ∙ ap (λ xs. with_lent_words (put_words (take (i - from) (drop from (at_addresses first (take total (words_of codes))))) c.args.lease.now) (first + i)
+          (take n (words_of xs))) (take_all (length codes - 8 * i) (drop (8 * i) codes) (omega (arith, length-drop (8 * i) codes)))
           ∙ group_next codes first total from i n c.args.lease.now c.loop-i.invariant.begun fits given;
-      covers = record { rising = h.rising; first_group = c.write_codes.ensures.first ∙ h.first_group; count = c.write_codes.ensures.count ∙ h.count; few = h.few };
+      covers = record {
+        rising = h.rising;
+        first_group = c.write_codes.ensures.first ∙ h.first_group;
+        count = c.write_codes.ensures.count ∙ h.count;
+        few =
+            h.few;
+      };
       begun = omega arith;
       within = omega arith;
     }

@@ -17,4 +17,5 @@ item_of-requires-3 c =
     let second = item_ranges c.args.i in
     let third = item_ranges c.args.m in
     let ns = c.args.numbers.now in
-    rw (c.behind_item-behind_i.ensures, c.behind_item-behind_c.ensures) (ranges-apart second third (behind_item c.args.c ns) (ranges-apart first (second ++ third) ns c.requires).1).1
+    rw (c.behind_item-behind_i.ensures, c.behind_item-behind_c.ensures)
+    (ranges-apart second third (behind_item c.args.c ns) (ranges-apart first (second ++ third) ns c.requires).1).1

@@ -8,8 +8,10 @@ use Rattle.kdf_usercode.proofs.reading.with_bytes.Goals as goal
 
 pub returns-in-Some : goal.returns-in-Some
 returns-in-Some c =
-    c.with.ensures ∙ ap (λ o. lesser c.args.best o) (sym (least-bytes c.args.text.now ∙ ap (option_map (found BadByte)) (sym c.first_bad.ensures ∙ c.in-Some.is)))
+    c.with.ensures ∙ ap (λ o. lesser c.args.best o)
+    (sym (least-bytes c.args.text.now ∙ ap (option_map (found BadByte)) (sym c.first_bad.ensures ∙ c.in-Some.is)))
 
 pub returns-in-None : goal.returns-in-None
 returns-in-None c =
-    sym (lesser-none number_of c.args.best) ∙ ap (λ o. lesser c.args.best o) (sym (least-bytes c.args.text.now ∙ ap (option_map (found BadByte)) (sym c.first_bad.ensures ∙ c.in-None.is)))
+    sym (lesser-none number_of c.args.best)
+    ∙ ap (λ o. lesser c.args.best o) (sym (least-bytes c.args.text.now ∙ ap (option_map (found BadByte)) (sym c.first_bad.ensures ∙ c.in-None.is)))

@@ -10,7 +10,8 @@ abbrev pub invariant-loop-cursor : goal.invariant-loop-cursor
 invariant-loop-cursor g l = record {
   at : IsAt l.events l.cursor l.machine;
   gone : HasGone (λ look b. goal.G-post g l.watch look b) l.fn.machine l.machine;
-  truthful : IsTrueFor (λ n a. goal.F-post g l.service n a) l.fn.machine.slots l.fn.machine.journal → IsTrueFor (λ n a. goal.F-post g l.service n a) l.machine.slots l.machine.journal;
+  truthful : IsTrueFor (λ n a. goal.F-post g l.service n a) l.fn.machine.slots l.fn.machine.journal
+      → IsTrueFor (λ n a. goal.F-post g l.service n a) l.machine.slots l.machine.journal;
   same_slots : l.machine.slots ≡ l.fn.machine.slots;
   same_event : l.cursor.event ≡ l.fn.cursor.event;
   orders : l.n ≡ orders_in (event_at l.events l.cursor.event);

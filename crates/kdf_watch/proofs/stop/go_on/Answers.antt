@@ -18,7 +18,8 @@ pass-requires-clause-more g c = omega (arith, c.loop-cursor-test.true, c.obey_or
 pub returns-then-not-pass-clause-at : goal.returns-then-not-pass-clause-at
 returns-then-not-pass-clause-at g c =
     let passed = c.if-not-pass.ensures.passed in
-    subst (λ (d : Cursor). IsAt c.args.events.now d c.pass.new.machine) (sym passed.2) (subst (λ (m : Shown). IsAt c.args.events.now c.obey_orders.new.cursor m) (sym passed.1) c.obey_orders.ensures.at)
+    subst (λ (d : Cursor). IsAt c.args.events.now d c.pass.new.machine) (sym passed.2)
+    (subst (λ (m : Shown). IsAt c.args.events.now c.obey_orders.new.cursor m) (sym passed.1) c.obey_orders.ensures.at)
 
 pub loop-cursor-smaller : goal.loop-cursor-smaller
 loop-cursor-smaller g c =
@@ -71,7 +72,8 @@ pub returns-in-Some-clause-err : goal.returns-in-Some-clause-err
 returns-in-Some-clause-err g c = tt
 
 pub returns-then-not-pass-clause-slots : goal.returns-then-not-pass-clause-slots
-returns-then-not-pass-clause-slots g c = ap (λ (m : Shown). m.slots) c.if-not-pass.ensures.passed.1 ∙ c.obey_orders.ensures.slots ∙ c.loop-cursor.invariant.same_slots
+returns-then-not-pass-clause-slots g c = ap (λ (m : Shown). m.slots) c.if-not-pass.ensures.passed.1 ∙ c.obey_orders.ensures.slots
+    ∙ c.loop-cursor.invariant.same_slots
 
 pub returns-then-not-pass-clause-err : goal.returns-then-not-pass-clause-err
 returns-then-not-pass-clause-err g c = tt
@@ -91,22 +93,27 @@ returns-clause-err g c = tt
 pub returns-in_err-stop-clause-err : goal.returns-in_err-stop-clause-err
 returns-in_err-stop-clause-err g c =
     on_err c.from_residual.result _
-    (gone_on _ c.args.machine.now c.loop-cursor.machine c.obey_orders.new.machine c.loop-cursor.invariant.gone c.loop-cursor.invariant.same_slots c.in_err-stop.ensures.err)
+    (gone_on _ c.args.machine.now c.loop-cursor.machine c.obey_orders.new.machine c.loop-cursor.invariant.gone c.loop-cursor.invariant.same_slots
+    c.in_err-stop.ensures.err)
 
 pub returns-in-Some-clause-stopped : goal.returns-in-Some-clause-stopped
 returns-in-Some-clause-stopped g c =
-    rw c.in-Some.is at (paused_on _ c.args.machine.now c.loop-cursor.machine c.obey_orders.new.machine c.loop-cursor.invariant.gone c.loop-cursor.invariant.same_slots c.args.events.now c.in_ok-stop.field-0 c.in_ok-stop.ensures.paused)
+    rw c.in-Some.is at (paused_on _ c.args.machine.now c.loop-cursor.machine c.obey_orders.new.machine c.loop-cursor.invariant.gone
+    c.loop-cursor.invariant.same_slots c.args.events.now c.in_ok-stop.field-0 c.in_ok-stop.ensures.paused)
 
 pub returns-then-not-pass-clause-truthful : goal.returns-then-not-pass-clause-truthful
 returns-then-not-pass-clause-truthful g c t =
-    subst (λ (m : Shown). IsTrueFor (λ n a. goal.F-post g c.args.service.now n a) m.slots m.journal) (sym c.if-not-pass.ensures.passed.1) (c.obey_orders.ensures.truthful (c.loop-cursor.invariant.truthful t))
+    subst (λ (m : Shown). IsTrueFor (λ n a. goal.F-post g c.args.service.now n a) m.slots m.journal) (sym c.if-not-pass.ensures.passed.1)
+    (c.obey_orders.ensures.truthful (c.loop-cursor.invariant.truthful t))
 
 pub returns-then-not-pass-clause-stopped : goal.returns-then-not-pass-clause-stopped
 returns-then-not-pass-clause-stopped g c = (
   gone_same _ c.args.machine.now c.obey_orders.new.machine c.pass.new.machine
-      (rw c.in_default.is at (paused_on _ c.args.machine.now c.loop-cursor.machine c.obey_orders.new.machine c.loop-cursor.invariant.gone c.loop-cursor.invariant.same_slots c.args.events.now c.in_ok-stop.field-0 c.in_ok-stop.ensures.paused))
+      (rw c.in_default.is at (paused_on _ c.args.machine.now c.loop-cursor.machine c.obey_orders.new.machine c.loop-cursor.invariant.gone
+      c.loop-cursor.invariant.same_slots c.args.events.now c.in_ok-stop.field-0 c.in_ok-stop.ensures.paused))
       c.if-not-pass.ensures.passed.1,
-  whole_same c.args.events.now c.obey_orders.new.machine c.pass.new.machine c.if-not-pass.ensures.passed.1 (whole_early c.args.events.now c.obey_orders.new.cursor c.obey_orders.new.machine c.obey_orders.ensures.at c.if-not-pass.ensures.passed.0),
+  whole_same c.args.events.now c.obey_orders.new.machine c.pass.new.machine c.if-not-pass.ensures.passed.1
+      (whole_early c.args.events.now c.obey_orders.new.cursor c.obey_orders.new.machine c.obey_orders.ensures.at c.if-not-pass.ensures.passed.0),
 )
 
 pub loop-cursor-preserved : goal.loop-cursor-preserved
@@ -120,15 +127,22 @@ loop-cursor-preserved g c =
     record {
       at =
           subst (λ (d : Cursor). IsAt es d w) (sym passed.3)
-          (at_passed es at m c.obey_orders.ensures.at lt (c.in_ok-stop.ensures.all c.in_default.is) w (c.requires.in_range at.event (Orders 0) lt) passed.2 passed.1 passed.0);
+          (at_passed es at m c.obey_orders.ensures.at lt (c.in_ok-stop.ensures.all c.in_default.is) w (c.requires.in_range at.event (Orders 0) lt) passed.2
+          passed.1 passed.0);
       gone =
           gone_entered _ c.args.machine.now m w
-          (rw c.in_default.is at (paused_on _ c.args.machine.now c.loop-cursor.machine m c.loop-cursor.invariant.gone c.loop-cursor.invariant.same_slots es c.in_ok-stop.field-0 c.in_ok-stop.ensures.paused))
+          (rw c.in_default.is at (paused_on _ c.args.machine.now c.loop-cursor.machine m c.loop-cursor.invariant.gone c.loop-cursor.invariant.same_slots es
+          c.in_ok-stop.field-0 c.in_ok-stop.ensures.paused))
           (event_at es at.event) passed.2;
       truthful = λ t.
-          true_entered_by (λ n a. goal.F-post g c.args.service.now n a) m w (event_at es at.event) passed.1 (c.obey_orders.ensures.truthful (c.loop-cursor.invariant.truthful t)) passed.2;
+          true_entered_by (λ n a. goal.F-post g c.args.service.now n a) m w (event_at es at.event) passed.1
+          (c.obey_orders.ensures.truthful (c.loop-cursor.invariant.truthful t)) passed.2;
       same_slots = slots_entered m w (event_at es at.event) passed.2 ∙ c.obey_orders.ensures.slots ∙ c.loop-cursor.invariant.same_slots;
     }
 
 pub returns-clause-stopped : goal.returns-clause-stopped
-returns-clause-stopped g c = (c.loop-cursor.invariant.gone, whole_late c.args.events.now c.loop-cursor.cursor c.loop-cursor.machine c.loop-cursor.invariant.at (omega (arith, c.loop-cursor-test.false)))
+returns-clause-stopped g c = (
+  c.loop-cursor.invariant.gone,
+  whole_late c.args.events.now c.loop-cursor.cursor c.loop-cursor.machine c.loop-cursor.invariant.at
+      (omega (arith, c.loop-cursor-test.false)),
+)

@@ -8,7 +8,8 @@ abbrev pub invariant-loop-cursor : goal.invariant-loop-cursor
 invariant-loop-cursor g l = record {
   at : IsAt l.events l.cursor l.machine;
   gone : HasGone (λ look b. goal.G-post g l.watch look b) l.fn.machine l.machine;
-  truthful : IsTrueFor (λ n a. goal.F-post g l.service n a) l.fn.machine.slots l.fn.machine.journal → IsTrueFor (λ n a. goal.F-post g l.service n a) l.machine.slots l.machine.journal;
+  truthful : IsTrueFor (λ n a. goal.F-post g l.service n a) l.fn.machine.slots l.fn.machine.journal
+      → IsTrueFor (λ n a. goal.F-post g l.service n a) l.machine.slots l.machine.journal;
   same_slots : l.machine.slots ≡ l.fn.machine.slots;
 }
 

@@ -31,7 +31,8 @@ pub returns-clause-journal : goal.returns-clause-journal
 returns-clause-journal g c = record {
   legal = c.journal-journal.ensures.legal;
   truly = c.go_to.ensures.truthful c.loop-numbers.invariant.truthful;
-  whole = (finished_of _ c.args.events.now c.loop-numbers.machine c.go_to.new.machine c.in_ok-look.field-0 c.in_ok-look.ensures.stopped c.in_default.not-Watched).1;
+  whole = (finished_of _ c.args.events.now c.loop-numbers.machine c.go_to.new.machine c.in_ok-look.field-0 c.in_ok-look.ensures.stopped
+      c.in_default.not-Watched).1;
 }
 
 pub returns-clause-seen : goal.returns-clause-seen
@@ -57,13 +58,15 @@ loop-numbers-preserved g c = record {
   truthful = c.go_to.ensures.truthful c.loop-numbers.invariant.truthful;
   numbers =
       c.in_ok-push.ensures.items
-      ∙ (seen_numbers _ c.args.k c.args.at (λ look b h. search rules) c.loop-numbers.machine c.go_to.new.machine c.loop-numbers.numbers.items c.loop-numbers.invariant.numbers c.in-Watched.look (rw c.in-Watched.is at c.in_ok-look.ensures.stopped)
+      ∙ (seen_numbers _ c.args.k c.args.at (λ look b h. search rules) c.loop-numbers.machine c.go_to.new.machine c.loop-numbers.numbers.items
+      c.loop-numbers.invariant.numbers c.in-Watched.look (rw c.in-Watched.is at c.in_ok-look.ensures.stopped)
       ∙ ap (λ (S : List Slot). hits c.args.k c.args.at (all_looks S (steps c.go_to.new.machine.journal))) (sym c.go_to.ensures.slots));
 }
 
 pub returns-clause-numbers : goal.returns-clause-numbers
 returns-clause-numbers g c =
-    gone_numbers _ c.args.k c.args.at (λ look b h. search rules) c.loop-numbers.machine c.go_to.new.machine c.loop-numbers.numbers.items c.loop-numbers.invariant.numbers
+    gone_numbers _ c.args.k c.args.at (λ look b h. search rules) c.loop-numbers.machine c.go_to.new.machine c.loop-numbers.numbers.items
+    c.loop-numbers.invariant.numbers
     (finished_of _ c.args.events.now c.loop-numbers.machine c.go_to.new.machine c.in_ok-look.field-0 c.in_ok-look.ensures.stopped c.in_default.not-Watched).0
     ∙ (ap (λ (S : List Slot). hits c.args.k c.args.at (all_looks S (steps c.go_to.new.machine.journal))) (sym c.go_to.ensures.slots)
     ∙ counted c.go_to.new.machine.slots c.go_to.new.machine.journal c.args.k c.args.at c.journal-journal.ensures.legal)

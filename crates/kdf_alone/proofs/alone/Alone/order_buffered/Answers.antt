@@ -7,4 +7,5 @@ use Rattle.kdf_alone.proofs.alone.Alone.order_buffered.Goals as goal
 pub obey_next-requires-clause-agrees : goal.obey_next-requires-clause-agrees
 obey_next-requires-clause-agrees c =
     let b = c.self.inside.bench in
-    agrees_with (λ _. 0) (given (stock_of b).claims b.answer) c.args.self.now.stock (stock_of b) c.args.held.now (ap (λ (s : State). s.stock) c.self.view_is) c.requires.agrees
+    agrees_with (λ _. 0) (given (stock_of b).claims b.answer) c.args.self.now.stock (stock_of b) c.args.held.now (ap (λ (s : State). s.stock) c.self.view_is)
+    c.requires.agrees

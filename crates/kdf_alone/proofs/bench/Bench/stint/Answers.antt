@@ -44,7 +44,8 @@ returns-in-None c =
     let Q : ℕ → Type 0 = λ n. c.args.i < n in
     let inside : c.args.i < length b.stints.items = subst Q (count_lent (stock_of b) b.stints.items refl) c.requires in
     let R : Option Lending → Type 0 = λ o. IfSome o (λ y. IsStint y x.d false c.lent.result.now) in
-    let low : x.d < length b.places.items = omega (arith, b.sixteen, b.lent.few x.d (pooled_number b.places.items b.claimed b.stints.items c.args.i x b.lent inside c.index-stint.ensures)) in
+    let low : x.d < length b.places.items =
+    omega (arith, b.sixteen, b.lent.few x.d (pooled_number b.places.items b.claimed b.stints.items c.args.i x b.lent inside c.index-stint.ensures)) in
     subst R (sym (stint_lent (lending_of (stock_of b)) b.stints.items c.args.i x inside c.index-stint.ensures))
     (told_held b.size b.served b.claimed b.places.items b.stints.items b.spooled.items b.asked b.words.items x c.lent.result.now c.in-None.is c.lent.ensures
     (All-get_or IsWhole b.places.items x.d Absent low b.pooled))

@@ -34,10 +34,13 @@ returns c =
     c.index_mut-place.ensures.value ∙ get_or_default ps c.from-3.result place Absent there ∙ ap (λ n. get_or ps n Absent) c.from-3.ensures in
     let found = claimed_device b.size b.served b.claimed ps c.args.device (kind_of c.args.order) c.requires.kind in
     let words = with_items_is b.words c.transfer.new.words (c.transfer.auto.words ∙ c.deref_mut.ensures.len) in
-    let moved = moved_at c.args.order c.from.result c.args.first c.from-2.result c.args.last found.0 c.deref_mut.result.now b.words.items c.transfer.new.self c.transfer.new.words (with_items b.words c.transfer.new.words).items
+    let moved = moved_at c.args.order c.from.result c.args.first c.from-2.result c.args.last found.0 c.deref_mut.result.now b.words.items c.transfer.new.self
+    c.transfer.new.words (with_items b.words c.transfer.new.words).items
     c.from.ensures c.from-2.ensures c.deref_mut.ensures.value words (c.transfer.ensures.moved found.0 (ap device_in here ∙ found.1)) in
-    ap (λ n. stock b.size b.served b.claimed (set ps n c.transfer.new.self) b.stints.items b.spooled.items b.asked (with_items b.words c.transfer.new.words).items) c.from-3.ensures
-    ∙ stock_moved b.size b.served b.claimed ps b.stints.items b.spooled.items b.asked b.words.items c.args.device c.args.order c.args.first c.args.last found.0 c.transfer.new.self (with_items b.words c.transfer.new.words).items
+    ap (λ n. stock b.size b.served b.claimed (set ps n c.transfer.new.self) b.stints.items b.spooled.items b.asked
+    (with_items b.words c.transfer.new.words).items) c.from-3.ensures
+    ∙ stock_moved b.size b.served b.claimed ps b.stints.items b.spooled.items b.asked b.words.items c.args.device c.args.order c.args.first c.args.last found.0
+    c.transfer.new.self (with_items b.words c.transfer.new.words).items
     (All-get_or IsWhole ps c.args.device Absent inside b.pooled) found.1
     (c.transfer.ensures.own ∙ ap own_fixture_in here) (c.transfer.ensures.kind ∙ ap pool_kind_in here) moved
 
@@ -52,7 +55,8 @@ invariant_of-self-clause-pooled c =
     let there : c.from-3.result < length ps = omega (arith, b.sixteen, c.from-3.ensures, c.requires.number) in
     let here : place ≡ get_or ps c.from-3.result Absent = c.index_mut-place.ensures.value ∙ get_or_default ps c.from-3.result place Absent there in
     let Q : Place → Type 0 = IsWhole in
-    All-set IsWhole ps c.from-3.result c.transfer.new.self (c.transfer.ensures.whole (subst Q (sym here) (All-get_or IsWhole ps c.from-3.result Absent there b.pooled))) b.pooled
+    All-set IsWhole ps c.from-3.result c.transfer.new.self
+    (c.transfer.ensures.whole (subst Q (sym here) (All-get_or IsWhole ps c.from-3.result Absent there b.pooled))) b.pooled
 
 pub invariant_of-self-clause-kept : goal.invariant_of-self-clause-kept
 invariant_of-self-clause-kept c =
@@ -75,12 +79,16 @@ invariant_of-self-clause-lent c =
     c.index_mut-place.ensures.value ∙ get_or_default ps c.from-3.result place Absent there ∙ ap (λ n. get_or ps n Absent) c.from-3.ensures in
     let found = claimed_device b.size b.served b.claimed ps c.args.device (kind_of c.args.order) c.requires.kind in
     let words = with_items_is b.words c.transfer.new.words (c.transfer.auto.words ∙ c.deref_mut.ensures.len) in
-    let moved = moved_at c.args.order c.from.result c.args.first c.from-2.result c.args.last found.0 c.deref_mut.result.now b.words.items c.transfer.new.self c.transfer.new.words (with_items b.words c.transfer.new.words).items
+    let moved = moved_at c.args.order c.from.result c.args.first c.from-2.result c.args.last found.0 c.deref_mut.result.now b.words.items c.transfer.new.self
+    c.transfer.new.words (with_items b.words c.transfer.new.words).items
     c.from.ensures c.from-2.ensures c.deref_mut.ensures.value words (c.transfer.ensures.moved found.0 (ap device_in here ∙ found.1)) in
     start_lent b.size b.served b.claimed ps b.stints.items b.spooled.items b.asked b.words.items b.lent
-    (set ps c.from-3.result c.transfer.new.self) (with_items b.words c.transfer.new.words).items c.args.device c.args.order c.args.first c.args.last c.requires.kind
-    (ap (λ n. stock b.size b.served b.claimed (set ps n c.transfer.new.self) b.stints.items b.spooled.items b.asked (with_items b.words c.transfer.new.words).items) c.from-3.ensures
-    ∙ stock_moved b.size b.served b.claimed ps b.stints.items b.spooled.items b.asked b.words.items c.args.device c.args.order c.args.first c.args.last found.0 c.transfer.new.self (with_items b.words c.transfer.new.words).items
+    (set ps c.from-3.result c.transfer.new.self) (with_items b.words c.transfer.new.words).items c.args.device c.args.order c.args.first c.args.last
+    c.requires.kind
+    (ap (λ n. stock b.size b.served b.claimed (set ps n c.transfer.new.self) b.stints.items b.spooled.items b.asked
+    (with_items b.words c.transfer.new.words).items) c.from-3.ensures
+    ∙ stock_moved b.size b.served b.claimed ps b.stints.items b.spooled.items b.asked b.words.items c.args.device c.args.order c.args.first c.args.last found.0
+    c.transfer.new.self (with_items b.words c.transfer.new.words).items
     (All-get_or IsWhole ps c.args.device Absent inside b.pooled) found.1
     (c.transfer.ensures.own ∙ ap own_fixture_in here) (c.transfer.ensures.kind ∙ ap pool_kind_in here) moved)
 

@@ -19,19 +19,22 @@ returns-clause-can c =
 pub returns-clause-recorded : goal.returns-clause-recorded
 returns-clause-recorded c =
     let b = c.args.self.now in
-    stock_taken b.size b.served b.claimed b.places.items b.stints.items c.push_reserved.new.self.items b.spooled.items b.asked b.words.items c.args.kind b.answer c.taken-d.result c.from.result
+    stock_taken b.size b.served b.claimed b.places.items b.stints.items c.push_reserved.new.self.items b.spooled.items b.asked b.words.items c.args.kind
+    b.answer c.taken-d.result c.from.result
     c.requires.may c.taken-d.ensures.taken c.from.ensures c.push_reserved.ensures.items
 
 pub invariant_of-self-clause-kept : goal.invariant_of-self-clause-kept
 invariant_of-self-clause-kept c =
     let b = c.args.self.now in
     let P : List Stint → Type 0 = All (IsKept (map pool_kind_in b.places.items)) in
-    subst P (sym c.push_reserved.ensures.items) (All-push (IsKept (map pool_kind_in b.places.items)) b.stints.items (record { d = c.taken-d.result; left = None }) b.kept refl)
+    subst P (sym c.push_reserved.ensures.items)
+    (All-push (IsKept (map pool_kind_in b.places.items)) b.stints.items (record { d = c.taken-d.result; left = None }) b.kept refl)
 
 pub invariant_of-self-clause-lent : goal.invariant_of-self-clause-lent
 invariant_of-self-clause-lent c =
     let b = c.args.self.now in
     take_lent b.size b.served b.claimed b.places.items b.stints.items b.spooled.items b.asked b.words.items b.lent
     (set b.claimed c.from.result true) c.push_reserved.new.self.items (b.asked + 1) c.args.kind _ c.requires.may
-    (stock_taken b.size b.served b.claimed b.places.items b.stints.items c.push_reserved.new.self.items b.spooled.items b.asked b.words.items c.args.kind b.answer c.taken-d.result c.from.result
+    (stock_taken b.size b.served b.claimed b.places.items b.stints.items c.push_reserved.new.self.items b.spooled.items b.asked b.words.items c.args.kind
+    b.answer c.taken-d.result c.from.result
     c.requires.may c.taken-d.ensures.taken c.from.ensures c.push_reserved.ensures.items)

@@ -10,11 +10,13 @@ loop-d-init c = head_filter (λ d. is_of c.args.p (slice_index_or c.args.self.no
 
 pub returns-then-is_own-clause-least : goal.returns-then-is_own-clause-least
 returns-then-is_own-clause-least c =
-    sym (c.loop-d.invariant ∙ found_here (λ d. is_of c.args.p (slice_index_or c.args.self.now.places d None)) c.loop-d.d 16 c.loop-d-test.true (sym c.is_own.ensures.own ∙ c.if-is_own.true))
+    sym (c.loop-d.invariant ∙ found_here (λ d. is_of c.args.p (slice_index_or c.args.self.now.places d None)) c.loop-d.d 16 c.loop-d-test.true
+    (sym c.is_own.ensures.own ∙ c.if-is_own.true))
 
 pub loop-d-preserved : goal.loop-d-preserved
 loop-d-preserved c =
-    c.loop-d.invariant ∙ found_behind (λ d. is_of c.args.p (slice_index_or c.args.self.now.places d None)) c.loop-d.d 16 c.loop-d-test.true (sym c.is_own.ensures.own ∙ c.if-is_own.false)
+    c.loop-d.invariant ∙ found_behind (λ d. is_of c.args.p (slice_index_or c.args.self.now.places d None)) c.loop-d.d 16 c.loop-d-test.true
+    (sym c.is_own.ensures.own ∙ c.if-is_own.false)
 
 pub returns-clause-least : goal.returns-clause-least
 returns-clause-least c =

@@ -16,18 +16,21 @@ use Rattle.kdf_director.proofs.machine.Machine.claimed.Goals.{After-is_claimed_i
 found : (c : After-is_claimed_in) → c.is_claimed_in.result ≡ claims_it c.self.inside c.self.invariant c.args.d
 found c =
     c.is_claimed_in.ensures
-    ∙ ap₂ (λ xs ps. is_claimed_by (owner_in xs c.args.d) (seats_in ps) (pool_in (map loaded xs)) c.self.inside.journal.entries c.args.d) c.deref.ensures.value c.deref-2.ensures.value
+    ∙ ap₂ (λ xs ps. is_claimed_by (owner_in xs c.args.d) (seats_in ps) (pool_in (map loaded xs)) c.self.inside.journal.entries c.args.d) c.deref.ensures.value
+    c.deref-2.ensures.value
 
 pub returns-clause-own : goal.returns-clause-own
 returns-clause-own c = λ p.
     let m = c.self.inside in
-    subst (λ (v : Shown). IfSome (state_of v p) (λ (x : State). is_some (own_fixture_at x.stock.claims c.args.d) ≡ true → c.is_claimed_in.result ≡ is_claimed x.stock.claims c.args.d)) c.self.view_is
+    subst (λ (v : Shown). IfSome (state_of v p) (λ (x : State). is_some (own_fixture_at x.stock.claims c.args.d) ≡ true
+    → c.is_claimed_in.result ≡ is_claimed x.stock.claims c.args.d)) c.self.view_is
     (claimed_shown m c.self.invariant c.args.d p c.is_claimed_in.result (found (goal.at.returns-clause-own c).After-is_claimed_in))
 
 pub returns-clause-pool : goal.returns-clause-pool
 returns-clause-pool c = λ p.
     let m = c.self.inside in
-    subst (λ (v : Shown). IfSome (state_of v p) (λ (x : State). is_pooled x.stock.claims c.args.d ≡ true → c.is_claimed_in.result ≡ is_some (holder c.args.d v.journal))) c.self.view_is
+    subst (λ (v : Shown). IfSome (state_of v p) (λ (x : State). is_pooled x.stock.claims c.args.d ≡ true
+    → c.is_claimed_in.result ≡ is_some (holder c.args.d v.journal))) c.self.view_is
     (pool_shown m c.self.invariant c.args.d p c.is_claimed_in.result (found (goal.at.returns-clause-pool c).After-is_claimed_in))
 
 pub returns-clause-none : goal.returns-clause-none

@@ -16,10 +16,12 @@ load_yard-requires-clause-slots c = subst (λ (slots : List SlotJob). AreSlots (
 pub machine_of-requires : goal.machine_of-requires
 machine_of-requires c =
     record {
-      ready = is_ready _ c.in_ok-yard.yard c.in_ok-yard.ensures.loaded c.reserve.new.self c.len-room.result (c.reserve.ensures.entries ∙ c.new-journal.ensures) c.in_ok-reserve.ensures.room (omega (arith, c.requires.few_events, c.len-room.ensures));
+      ready = is_ready _ c.in_ok-yard.yard c.in_ok-yard.ensures.loaded c.reserve.new.self c.len-room.result (c.reserve.ensures.entries ∙ c.new-journal.ensures)
+          c.in_ok-reserve.ensures.room (omega (arith, c.requires.few_events, c.len-room.ensures));
     }
 
-its_slots : (c : goal.After-machine_of) → c.machine_of.result.slots ≡ slots_of (map shown_slot c.args.job.now.slots.items) (map (λ (x : Image). x.words.items) c.args.images.now)
+its_slots : (c : goal.After-machine_of) → c.machine_of.result.slots ≡ slots_of (map shown_slot c.args.job.now.slots.items)
+    (map (λ (x : Image). x.words.items) c.args.images.now)
 its_slots c =
     ap (λ (m : Shown). m.slots) c.machine_of.ensures.shown
     ∙ c.in_ok-yard.ensures.loaded.slots_are

@@ -7,7 +7,8 @@ use Rattle.kdf_director.proofs.machine.Machine.order.Goals as goal
 pub returns-clause-took : goal.returns-clause-took
 returns-clause-took c =
     if_ok c.order_with.result _ _
-    (λ r took. advance_unserved _ unasked c.args.self.now c.order_with.new.self r c.requires.unserved c.journal-journal.ensures.seen took) c.order_with.ensures.took
+    (λ r took. advance_unserved _ unasked c.args.self.now c.order_with.new.self r c.requires.unserved c.journal-journal.ensures.seen took)
+    c.order_with.ensures.took
 
 pub returns-clause-answered : goal.returns-clause-answered
 returns-clause-answered c =

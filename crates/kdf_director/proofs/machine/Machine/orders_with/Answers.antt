@@ -5,11 +5,13 @@ use Rattle.kdf_director.proofs.machine.Machine.orders_with.Goals as goal
 
 pub returns-clause-made : goal.returns-clause-made
 returns-clause-made g c =
-    if_ok c.calls_with.result _ _ (all_of (λ n a. goal.F-post g c.args.service.now n a) c.args.self.now c.args.n c.calls_with.new.self) c.calls_with.ensures.made
+    if_ok c.calls_with.result _ _ (all_of (λ n a. goal.F-post g c.args.service.now n a) c.args.self.now c.args.n c.calls_with.new.self)
+    c.calls_with.ensures.made
 
 pub returns-clause-steps : goal.returns-clause-steps
 returns-clause-steps g c =
-    on_ok c.calls_with.result _ _ (reached_of (λ n a. goal.F-post g c.args.service.now n a) c.args.self.now c.args.n c.calls_with.new.self) c.calls_with.ensures.made
+    on_ok c.calls_with.result _ _ (reached_of (λ n a. goal.F-post g c.args.service.now n a) c.args.self.now c.args.n c.calls_with.new.self)
+    c.calls_with.ensures.made
 
 pub returns-clause-truthful : goal.returns-clause-truthful
 returns-clause-truthful g c =
@@ -31,4 +33,5 @@ returns-clause-time g c =
 
 pub returns-clause-err : goal.returns-clause-err
 returns-clause-err g c =
-    on_err c.calls_with.result _ _ (only_made (λ n a. goal.F-post g c.args.service.now n a) c.args.self.now c.args.n c.calls_with.new.self) c.calls_with.ensures.err
+    on_err c.calls_with.result _ _ (only_made (λ n a. goal.F-post g c.args.service.now n a) c.args.self.now c.args.n c.calls_with.new.self)
+    c.calls_with.ensures.err

@@ -12,4 +12,5 @@ returns c =
     subst (λ (v : Shown). IsSomeAnd (state_of v c.args.p) (λ (x : State). c.texts_of.result.now ≡ x.stock.spooled)) c.self.view_is
     (texts_shown m c.self.invariant c.args.p c.texts_of.result.now
     (ap (λ (v : Shown). is_some (state_of v c.args.p)) c.self.view_is ∙ c.requires)
-    (subst (λ xs. IfSome (find (λ (x : Program). eqb x.p c.args.p) xs) (λ (x : Program). c.texts_of.result.now ≡ x.spooled.items)) c.deref.ensures.value c.texts_of.ensures))
+    (subst (λ xs. IfSome (find (λ (x : Program). eqb x.p c.args.p) xs) (λ (x : Program). c.texts_of.result.now ≡ x.spooled.items)) c.deref.ensures.value
+    c.texts_of.ensures))

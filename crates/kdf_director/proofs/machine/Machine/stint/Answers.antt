@@ -20,17 +20,25 @@ stint_in-requires-clause-there c =
 pub stint_in-requires-clause-lent : goal.stint_in-requires-clause-lent
 stint_in-requires-clause-lent c =
     let m = c.self.inside in
-    subst (λ xs. IfSome (find (λ (x : Program). eqb x.p c.args.p) xs) (λ (x : Program). HasLent (map spot_of c.deref-2.result.now) (map keeping_of x.stints.items))) (sym c.deref.ensures.value)
-    (subst (λ ps. IfSome (find (λ (x : Program). eqb x.p c.args.p) m.programs.items) (λ (x : Program). HasLent (map spot_of ps) (map keeping_of x.stints.items))) (sym c.deref-2.ensures.value)
+    subst (λ xs. IfSome (find (λ (x : Program). eqb x.p c.args.p) xs)
+    (λ (x : Program). HasLent (map spot_of c.deref-2.result.now) (map keeping_of x.stints.items))) (sym c.deref.ensures.value)
+    (subst (λ ps. IfSome (find (λ (x : Program). eqb x.p c.args.p) m.programs.items)
+    (λ (x : Program). HasLent (map spot_of ps) (map keeping_of x.stints.items))) (sym c.deref-2.ensures.value)
     (stint_lent m c.self.invariant c.args.p c.args.i
     (subst (λ (v : Shown). IsSomeAnd (state_of v c.args.p) (λ (x : State). c.args.i < length (lendings x.stock))) (sym c.self.view_is) c.requires)))
 
 pub returns : goal.returns
 returns c =
     let m = c.self.inside in
-    subst (λ (v : Shown). IsSomeAnd (state_of v c.args.p) (λ (x : State). IfSome (slice_get (lendings x.stock) c.args.i) (λ l. IsStint l c.stint_in.result.0 c.stint_in.result.1 c.stint_in.result.2.now))) c.self.view_is
+    subst (λ (v : Shown). IsSomeAnd (state_of v c.args.p)
+    (λ (x : State). IfSome (slice_get (lendings x.stock) c.args.i) (λ l. IsStint l c.stint_in.result.0 c.stint_in.result.1 c.stint_in.result.2.now)))
+    c.self.view_is
     (stint_shown m c.self.invariant c.args.p c.args.i
     (subst (λ (v : Shown). IsSomeAnd (state_of v c.args.p) (λ (x : State). c.args.i < length (lendings x.stock))) (sym c.self.view_is) c.requires)
     c.stint_in.result.0 c.stint_in.result.1 c.stint_in.result.2.now
-    (subst (λ xs. IfSome (find (λ (x : Program). eqb x.p c.args.p) xs) (λ (x : Program). IsTold (map spot_of m.devices.items) (get_or (map keeping_of x.stints.items) c.args.i no_keeping) c.stint_in.result.0 c.stint_in.result.1 c.stint_in.result.2.now)) c.deref.ensures.value
-    (subst (λ ps. IfSome (find (λ (x : Program). eqb x.p c.args.p) c.deref.result.now) (λ (x : Program). IsTold (map spot_of ps) (get_or (map keeping_of x.stints.items) c.args.i no_keeping) c.stint_in.result.0 c.stint_in.result.1 c.stint_in.result.2.now)) c.deref-2.ensures.value c.stint_in.ensures)))
+    (subst (λ xs. IfSome (find (λ (x : Program). eqb x.p c.args.p) xs)
+    (λ (x : Program). IsTold (map spot_of m.devices.items) (get_or (map keeping_of x.stints.items) c.args.i no_keeping) c.stint_in.result.0
+    c.stint_in.result.1 c.stint_in.result.2.now)) c.deref.ensures.value
+    (subst (λ ps. IfSome (find (λ (x : Program). eqb x.p c.args.p) c.deref.result.now)
+    (λ (x : Program). IsTold (map spot_of ps) (get_or (map keeping_of x.stints.items) c.args.i no_keeping) c.stint_in.result.0 c.stint_in.result.1
+    c.stint_in.result.2.now)) c.deref-2.ensures.value c.stint_in.ensures)))

@@ -12,4 +12,5 @@ returns c =
     subst (λ (v : Shown). IsSomeAnd (state_of v c.args.p) (λ (x : State). length c.stints_of.result.now ≡ length (lendings x.stock))) c.self.view_is
     (stints_shown m c.self.invariant c.args.p c.stints_of.result.now
     (ap (λ (v : Shown). is_some (state_of v c.args.p)) c.self.view_is ∙ c.requires)
-    (subst (λ xs. IfSome (find (λ (x : Program). eqb x.p c.args.p) xs) (λ (x : Program). c.stints_of.result.now ≡ x.stints.items)) c.deref.ensures.value c.stints_of.ensures))
+    (subst (λ xs. IfSome (find (λ (x : Program). eqb x.p c.args.p) xs) (λ (x : Program). c.stints_of.result.now ≡ x.stints.items)) c.deref.ensures.value
+    c.stints_of.ensures))

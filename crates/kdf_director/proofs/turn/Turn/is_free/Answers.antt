@@ -13,5 +13,7 @@ pub returns : goal.returns
 returns c =
     let t = c.args.self.now in
     c.is_free.ensures
-    ∙ ap₂ (λ ds ps. owns (numbers ds) c.args.d && (not (get_or t.claimed.now c.args.d false) && is_wanted c.args.wanted.now (spot_at (map spot_of ps) c.args.d).fixture)) c.deref.ensures.value c.deref-2.ensures.value
+    ∙ ap₂ (λ ds ps. owns (numbers ds) c.args.d
+    && (not (get_or t.claimed.now c.args.d false) && is_wanted c.args.wanted.now (spot_at (map spot_of ps) c.args.d).fixture)) c.deref.ensures.value
+    c.deref-2.ensures.value
     ∙ free_shown (part_of t) (shared t) c.args.d c.args.wanted.now (kept_in t) c.requires

@@ -8,7 +8,9 @@ use Rattle.kdf_director.proofs.turn.Turn.locked.Goals as goal
 use Rattle.kdf_director.proofs.turn.Turn.locked.Goals.{After-first_out}
 
 -- the groups of the area, counted in the store and in the window
-shifted : (c : After-first_out) → c.first_out.result ≡ option_map (λ g. c.args.self.now.window.base / 32 + g) (find (λ g. is_out c.args.self.now.store.now (c.args.self.now.window.base / 32 + g)) (range_with_len (c.args.first / 32) (c.args.last / 32 + 1 - c.args.first / 32)))
+shifted : (c : After-first_out) → c.first_out.result ≡ option_map (λ g. c.args.self.now.window.base / 32 + g)
+    (find (λ g. is_out c.args.self.now.store.now (c.args.self.now.window.base / 32 + g))
+    (range_with_len (c.args.first / 32) (c.args.last / 32 + 1 - c.args.first / 32)))
 shifted c =
     let t = c.args.self.now in
     let at_group = t.at_group in
@@ -19,7 +21,8 @@ shifted c =
     ∙ find_shift (is_out t.store.now) (t.window.base / 32) (c.args.first / 32) (c.args.last / 32 + 1 - c.args.first / 32)
 
 pub overflow_sub-result : goal.overflow_sub-result
-overflow_sub-result c = found_low (c.args.self.now.window.base / 32) c.in-Some.group _ (sym c.in-Some.is ∙ shifted (goal.at.overflow_sub-result c).After-first_out)
+overflow_sub-result c = found_low (c.args.self.now.window.base / 32) c.in-Some.group _
+    (sym c.in-Some.is ∙ shifted (goal.at.overflow_sub-result c).After-first_out)
 
 pub returns-in-Some : goal.returns-in-Some
 returns-in-Some c =

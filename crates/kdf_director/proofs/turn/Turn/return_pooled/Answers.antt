@@ -39,7 +39,9 @@ shows c =
 inside : (c : After-take_back_at) → c.args.d < length (map spot_of c.args.self.now.places.now.items)
 inside c = omega (arith, c.requires.number, c.args.self.now.sixteen, length-map c.args.self.now.places.now.items spot_of)
 
-are : (c : After-hand_in) → (leave : can_leave (spot_at (map spot_of c.args.self.now.places.now.items) c.args.d) ≡ true) → map keeping_of c.hand_in.new.stints.items ≡ map (with_loan c.args.d (back_from (spot_at (map spot_of c.args.self.now.places.now.items) c.args.d))) (map keeping_of c.args.self.now.stints.now.items)
+are : (c : After-hand_in) → (leave : can_leave (spot_at (map spot_of c.args.self.now.places.now.items) c.args.d) ≡ true)
+    → map keeping_of c.hand_in.new.stints.items ≡ map (with_loan c.args.d (back_from (spot_at (map spot_of c.args.self.now.places.now.items) c.args.d)))
+    (map keeping_of c.args.self.now.stints.now.items)
 are c leave =
     let spots = map spot_of c.args.self.now.places.now.items in
     c.hand_in.ensures

@@ -14,4 +14,5 @@ returns-in-Ok c =
     let group : c.place.result / 32 ≡ t.window.base / 32 + c.args.address / 32 = omega (arith, c.place.ensures) in
     let is = ok_of _ _ _ _ c.in-Ok.ensures in
     ok_is _ _ _ _ (ap (is_out t.store.now) (sym group) ∙ is.0)
-    (is.1 ∙ sym (own_word (part_of t) 0 (shared t) c.args.address c.requires ∙ ap (λ x. physical.word_at_place t.store.now (leases_of (shared t).spots) x) (sym c.place.ensures) ∙ here_word t.store.now (leases_of (shared t).spots) c.place.result is.0))
+    (is.1 ∙ sym (own_word (part_of t) 0 (shared t) c.args.address c.requires ∙ ap (λ x. physical.word_at_place t.store.now (leases_of (shared t).spots) x)
+    (sym c.place.ensures) ∙ here_word t.store.now (leases_of (shared t).spots) c.place.result is.0))

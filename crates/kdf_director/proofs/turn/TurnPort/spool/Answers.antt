@@ -26,7 +26,8 @@ text_of-text-requires-clause-area c =
     (subst (λ l. IsFreeArea t.store.now (t.window.base + c.args.first) l) (sym c.place-to.ensures) (free at))
 
 -- its text
-text : (c : After-text_of-text) → IsFreeArea c.args.self.now.store.now (c.args.self.now.window.base + c.args.first) (c.args.self.now.window.base + c.args.last) → c.text_of-text.result ≡ own_text (part_of c.args.self.now) (shared c.args.self.now) c.args.first c.args.last
+text : (c : After-text_of-text) → IsFreeArea c.args.self.now.store.now (c.args.self.now.window.base + c.args.first) (c.args.self.now.window.base + c.args.last)
+    → c.text_of-text.result ≡ own_text (part_of c.args.self.now) (shared c.args.self.now) c.args.first c.args.last
 text c is =
     let t = c.args.self.now in
     c.text_of-text.ensures

@@ -26,7 +26,8 @@ placed c is =
     let h : IsFreeArea t.store.now (t.window.base + c.args.first) (t.window.base + c.args.last) =
     free_area t.store.now t.window.base t.window.size c.args.first c.args.last t.at_group t.in_store (c.requires.area is)
     (free_groups (is_out_of (part_of t) (shared t)) c.args.order c.args.first c.args.last c.requires.free is) in
-    subst (λ f. IsFreeArea t.store.now f c.place-2.result) (sym c.place.ensures) (subst (λ l. IsFreeArea t.store.now (t.window.base + c.args.first) l) (sym c.place-2.ensures) h)
+    subst (λ f. IsFreeArea t.store.now f c.place-2.result) (sym c.place.ensures)
+    (subst (λ l. IsFreeArea t.store.now (t.window.base + c.args.first) l) (sym c.place-2.ensures) h)
 
 pub start_at-requires-clause-area : goal.start_at-requires-clause-area
 start_at-requires-clause-area c = placed (goal.at.start_at-requires-clause-area c).After-place-2
@@ -35,7 +36,8 @@ pub invariant_of-self-clause-in_store : goal.invariant_of-self-clause-in_store
 invariant_of-self-clause-in_store c =
     let at = (goal.at.invariant_of-self-clause-in_store c).After-place-2 in
     let t = c.args.self.now in
-    let same : length c.start_at.new.store ≡ length t.store.now = ap length c.start_at.ensures.store ∙ length-start c.args.order c.place.result c.place-2.result t.store.now (placed at) in
+    let same : length c.start_at.new.store ≡ length t.store.now = ap length c.start_at.ensures.store
+    ∙ length-start c.args.order c.place.result c.place-2.result t.store.now (placed at) in
     let within = t.in_store in
     omega arith
 
@@ -52,7 +54,8 @@ some c =
 pub invariant_of-self-clause-kept : goal.invariant_of-self-clause-kept
 invariant_of-self-clause-kept c =
     let at = (goal.at.invariant_of-self-clause-kept c).After-from in
-    start_kept c.args.self.now c.from.result c.args.order c.place.result c.place-2.result c.start_at.new.places.items (inside at) c.start_at.ensures.spots (some at)
+    start_kept c.args.self.now c.from.result c.args.order c.place.result c.place-2.result c.start_at.new.places.items (inside at) c.start_at.ensures.spots
+    (some at)
 
 pub invariant_of-self-clause-active : goal.invariant_of-self-clause-active
 invariant_of-self-clause-active c = c.args.self.now.active

@@ -26,7 +26,8 @@ free c =
       unlent = sym ((active_in t).marks d pooled) ∙ (or_parts (get_or t.claimed.now d false) (is_some (held_in t d)) one.1).0;
     }
 
-are : (c : After-push_reserved) → map keeping_of c.push_reserved.new.self.items ≡ map keeping_of c.args.self.now.stints.now.items ++ record { device = c.least_free-d.result; loan = Lent } ∷ []
+are : (c : After-push_reserved) → map keeping_of c.push_reserved.new.self.items ≡ map keeping_of c.args.self.now.stints.now.items
+    ++ record { device = c.least_free-d.result; loan = Lent } ∷ []
 are c =
     ap (map keeping_of) c.push_reserved.ensures.items
     ∙ map_push keeping_of c.args.self.now.stints.now.items (record { d = c.least_free-d.result; given = false; device = None })
@@ -56,7 +57,8 @@ returns-clause-recorded c =
     let lent = lent_is (part_of t) (shared t) (held_in t) c.args.kind c.least_free-d.result c.least_free-d.ensures.number c.least_free-d.ensures.least in
     record {
       same = record { moment = refl; journal = refl; claimed = refl; spooled = refl; stints = refl; store = refl; places = refl; block = refl };
-      part = ap (λ e. let q : Part = record (part_of t) { claimed = set t.claimed.now e true; stints = map keeping_of c.push_reserved.new.self.items } in q) c.from.ensures
+      part = ap (λ e. let q : Part = record (part_of t) { claimed = set t.claimed.now e true; stints = map keeping_of c.push_reserved.new.self.items } in q)
+          c.from.ensures
           ∙ take_part (part_of t) (shared t) c.args.kind answer c.least_free-d.result (map keeping_of c.push_reserved.new.self.items) lent (are at);
       shared = refl;
       note = ap Took (sym (ap (λ o. unwrap_or o 0) c.least_free-d.ensures.least));

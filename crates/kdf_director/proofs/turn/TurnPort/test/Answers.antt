@@ -18,4 +18,5 @@ returns c =
     let t = c.args.self.now in
     c.test_in.ensures
     ∙ ap (λ ps. test_of c.args.what (spot_at (map spot_of ps) c.args.device).progress) c.deref.ensures.value
-    ∙ sym (ap (test_of c.args.what) (own_device (part_of t) 0 (shared t) c.args.device (claimed_small (part_of t) (shared t) c.args.device c.requires.claimed) (claimed_has (part_of t) (shared t) c.args.device (active_in t) c.requires.claimed)))
+    ∙ sym (ap (test_of c.args.what) (own_device (part_of t) 0 (shared t) c.args.device (claimed_small (part_of t) (shared t) c.args.device c.requires.claimed)
+    (claimed_has (part_of t) (shared t) c.args.device (active_in t) c.requires.claimed)))

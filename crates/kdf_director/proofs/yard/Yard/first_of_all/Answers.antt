@@ -10,9 +10,11 @@ loop-i-init c = first_is c.args.self.now.reaches c.args.self.now.seats c.args.se
 pub returns-then-goes_at : goal.returns-then-goes_at
 returns-then-goes_at c =
     sym (c.loop-i.invariant
-    ∙ found_here (goes_in c.args.self.now) c.loop-i.i (length c.args.self.now.seats) (omega (arith, c.loop-i-test.true, c.count-i-end.ensures)) (sym c.goes_at.ensures ∙ c.if-goes_at.true))
+    ∙ found_here (goes_in c.args.self.now) c.loop-i.i (length c.args.self.now.seats) (omega (arith, c.loop-i-test.true, c.count-i-end.ensures))
+    (sym c.goes_at.ensures ∙ c.if-goes_at.true))
 
 pub loop-i-preserved : goal.loop-i-preserved
 loop-i-preserved c =
     c.loop-i.invariant
-    ∙ found_behind (goes_in c.args.self.now) c.loop-i.i (length c.args.self.now.seats) (omega (arith, c.loop-i-test.true, c.count-i-end.ensures)) (sym c.goes_at.ensures ∙ c.if-goes_at.false)
+    ∙ found_behind (goes_in c.args.self.now) c.loop-i.i (length c.args.self.now.seats) (omega (arith, c.loop-i-test.true, c.count-i-end.ensures))
+    (sym c.goes_at.ensures ∙ c.if-goes_at.false)

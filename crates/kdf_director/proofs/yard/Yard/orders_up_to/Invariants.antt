@@ -12,7 +12,8 @@ invariant-loop-made g l =
       within : l.left ≤ l.fn.left;
       ready : IsReady l.self l.journal l.room;
       made : HasMadeOn (λ n a. goal.F-post g l.service n a) (l.fn.left - l.left) (shown_of l.fn.self l.fn.journal l.room) (shown_of l.self l.journal l.room);
-      passed : ArePassed (λ n a. goal.F-post g l.service n a) l.halt (l.fn.left - l.left) (shown_of l.fn.self l.fn.journal l.room) (shown_of l.self l.journal l.room);
+      passed : ArePassed (λ n a. goal.F-post g l.service n a) l.halt (l.fn.left - l.left) (shown_of l.fn.self l.fn.journal l.room)
+          (shown_of l.self l.journal l.room);
     }
 
 abbrev pub decreases-loop-made : goal.decreases-loop-made

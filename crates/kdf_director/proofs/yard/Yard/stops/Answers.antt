@@ -14,5 +14,6 @@ returns-in-Ran c =
     c.halts.ensures
     ∙ ap (λ xs. halts c.args.halt c.in-Ran.p (option_map (λ (x : Program). x.registers) (find (λ (x : Program). eqb x.p c.in-Ran.p) xs))) c.deref.ensures.value
     ∙ ap (halts c.args.halt c.in-Ran.p) (seated c.self.inside.programs.items c.in-Ran.p)
-    ∙ ap (λ (y : Standing). halts c.args.halt c.in-Ran.p (option_map (λ (x : Seat). x.registers) (find (λ (x : Seat). eqb x.p c.in-Ran.p) y.seats))) c.self.view_is
+    ∙ ap (λ (y : Standing). halts c.args.halt c.in-Ran.p (option_map (λ (x : Seat). x.registers) (find (λ (x : Seat). eqb x.p c.in-Ran.p) y.seats)))
+    c.self.view_is
     ∙ sym (ap (stops_in c.args.halt c.args.self.now) c.in-Ran.is)

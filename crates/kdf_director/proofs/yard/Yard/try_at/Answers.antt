@@ -35,7 +35,9 @@ returns-clause-tried g c =
     told_by (λ n a. goal.F-post g c.args.service.now n a) y.reaches c.args.batch.time i c.args.batch.place c.heard-answer.result h
     (heard_then c.heard-answer.result h c.default.result c.unwrap_or-heard.ensures c.default.ensures) y.seats y.shared c.heard-answer.ensures.asked
     (reach_at y.reaches i).served refl n
-    (λ is. let few = c.turn.ensures.within in let one = c.batch_at.ensures.served (ap (λ (y : Standing). (reach_at y.reaches i).served) c.heard-answer.ensures.same ∙ is) in omega arith) z.seats z.shared x.0 x.1
+    (λ is. let few = c.turn.ensures.within in let one =
+    c.batch_at.ensures.served (ap (λ (y : Standing). (reach_at y.reaches i).served) c.heard-answer.ensures.same ∙ is) in omega arith) z.seats z.shared x.0
+    x.1
     (subst (λ (y : Standing). HasTurnedIn (moment c.args.batch.time h) i n c.args.batch.place y z x.0 x.1) c.heard-answer.ensures.same turned))
     c.turn.ensures.turned
 
@@ -51,6 +53,7 @@ returns-clause-err g c =
     told_still (λ n a. goal.F-post g c.args.service.now n a) y.reaches c.args.batch.time i c.args.batch.place c.heard-answer.result h
     (heard_then c.heard-answer.result h c.default.result c.unwrap_or-heard.ensures c.default.ensures) y.seats y.shared c.heard-answer.ensures.asked
     (reach_at y.reaches i).served refl n
-    (λ is. let few = c.turn.ensures.within in let one = c.batch_at.ensures.served (ap (λ (y : Standing). (reach_at y.reaches i).served) c.heard-answer.ensures.same ∙ is) in omega arith) z.seats z.shared
+    (λ is. let few = c.turn.ensures.within in let one =
+    c.batch_at.ensures.served (ap (λ (y : Standing). (reach_at y.reaches i).served) c.heard-answer.ensures.same ∙ is) in omega arith) z.seats z.shared
     (subst (λ (y : Standing). HasTurnedQuietly (moment c.args.batch.time h) i n c.args.batch.place y z) c.heard-answer.ensures.same still))
     c.turn.ensures.err

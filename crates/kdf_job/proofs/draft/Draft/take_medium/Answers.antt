@@ -5,4 +5,5 @@ pub returns : goal.returns
 returns c =
     let x = c.args.line in
     let added = c.add_medium_line.ensures in
-    medium_takes x.marked x.text.now c.args.self.now c.add_medium_line.new.self c.add_medium_line.result c.requires.sound c.requires.none c.requires.there added.shown added.words added.numbers
+    medium_takes x.marked x.text.now c.args.self.now c.add_medium_line.new.self c.add_medium_line.result c.requires.sound c.requires.none c.requires.there
+    added.shown added.words added.numbers

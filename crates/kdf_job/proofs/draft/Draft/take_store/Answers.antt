@@ -8,4 +8,5 @@ use Rattle.kdf_job.proofs.draft.Draft.take_store.Goals as goal
 pub returns : goal.returns
 returns c =
     let faultless : fault_of (AStore c.args.size) (shown_draft c.args.self.now) ≡ None = search rules in
-    store_takes c.args.p c.args.size c.args.self.now c.add_slot.new.self c.requires.sound c.requires.place c.requires.least c.requires.most faultless (search rules) (search rules) (search rules)
+    store_takes c.args.p c.args.size c.args.self.now c.add_slot.new.self c.requires.sound c.requires.place c.requires.least c.requires.most faultless
+    (search rules) (search rules) (search rules)

@@ -15,7 +15,8 @@ loop-k-preserved c =
     let eight : 8 * k + 8 - 8 * k ≡ 8 = omega arith in
     c.set_word.ensures
     ∙ ap (λ ws. set ws (c.args.i + k) w) c.loop-k.invariant
-    ∙ with_more codes c.args.self.now c.args.i k w lt (c.of_codes.ensures ∙ ap (λ n. first_word (take n (drop (8 * k) codes))) eight ∙ first_eight (drop (8 * k) codes))
+    ∙ with_more codes c.args.self.now c.args.i k w lt (c.of_codes.ensures ∙ ap (λ n. first_word (take n (drop (8 * k) codes))) eight
+    ∙ first_eight (drop (8 * k) codes))
 
 pub returns-then-whole-count : goal.returns-then-whole-count
 returns-then-whole-count c =
@@ -28,5 +29,6 @@ returns-then-whole-count c =
     let last : whole + 1 ≡ c.args.count = omega (arith, c.if-whole-count.true, c.requires.given, c.min-whole.ensures) in
     c.set_word-then-whole-count.ensures
     ∙ ap (λ ws. set ws (c.args.i + whole) w) (c.loop-k.invariant ∙ ap (λ n. with_words group c.args.i (take n (words_of codes))) done)
-    ∙ with_more codes group c.args.i whole w lt (c.of_codes-then-whole-count.ensures ∙ ap first_word (take_all (length codes - 8 * whole) (drop (8 * whole) codes) (omega (arith, length-drop (8 * whole) codes))))
+    ∙ with_more codes group c.args.i whole w lt (c.of_codes-then-whole-count.ensures
+    ∙ ap first_word (take_all (length codes - 8 * whole) (drop (8 * whole) codes) (omega (arith, length-drop (8 * whole) codes))))
     ∙ ap (λ n. with_words group c.args.i (take n (words_of codes))) last

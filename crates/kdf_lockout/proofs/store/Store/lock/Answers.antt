@@ -8,13 +8,15 @@ use Rattle.kdf_lockout.proofs.store.Store.lock.Goals as goal
 pub new-requires : goal.new-requires
 new-requires c =
     let same = c.deref_mut.ensures.value ∙ c.self.view_is in
-    let free = ap (λ s. first_out_of s (c.args.from / 32) (c.args.to / 32 + 1 - c.args.from / 32)) (sym c.self.view_is ∙ sym c.deref.ensures.value) ∙ sym c.in-None.ensures.value in
+    let free = ap (λ s. first_out_of s (c.args.from / 32) (c.args.to / 32 + 1 - c.args.from / 32)) (sym c.self.view_is ∙ sym c.deref.ensures.value)
+    ∙ sym c.in-None.ensures.value in
     subst AreAllHere (sym (c.take_groups.ensures.taken ∙ ap (λ s. take (c.args.to / 32 + 1 - c.args.from / 32) (drop (c.args.from / 32) s)) same))
     (here_in_range c.args.self.now (c.args.from / 32) (c.args.to / 32 + 1 - c.args.from / 32) (omega arith) free)
 
 pub returns-in-None-clause-lease : goal.returns-in-None-clause-lease
 returns-in-None-clause-lease c =
-    c.new.ensures ∙ lent_is c.args.self.now c.deref_mut.result.now (c.args.from / 32) (c.args.to / 32 + 1 - c.args.from / 32) c.take_groups.result.items (c.deref_mut.ensures.value ∙ c.self.view_is) c.take_groups.ensures.taken
+    c.new.ensures ∙ lent_is c.args.self.now c.deref_mut.result.now (c.args.from / 32) (c.args.to / 32 + 1 - c.args.from / 32) c.take_groups.result.items
+    (c.deref_mut.ensures.value ∙ c.self.view_is) c.take_groups.ensures.taken
 
 pub returns-in-None-clause-groups : goal.returns-in-None-clause-groups
 returns-in-None-clause-groups c =
@@ -24,7 +26,8 @@ returns-in-None-clause-groups c =
 
 pub returns-in-None-clause-taken : goal.returns-in-None-clause-taken
 returns-in-None-clause-taken c =
-    lent_out c.args.self.now _ _ (c.args.from / 32) (c.args.to / 32 + 1 - c.args.from / 32) (omega arith) (returns-in-None-clause-lease c) (returns-in-None-clause-groups c)
+    lent_out c.args.self.now _ _ (c.args.from / 32) (c.args.to / 32 + 1 - c.args.from / 32) (omega arith) (returns-in-None-clause-lease c)
+    (returns-in-None-clause-groups c)
 
 pub returns-in-None-clause-first : goal.returns-in-None-clause-first
 returns-in-None-clause-first c =
@@ -32,7 +35,8 @@ returns-in-None-clause-first c =
 
 pub returns-in-None-clause-count : goal.returns-in-None-clause-count
 returns-in-None-clause-count c =
-    ap (λ (l : Lent). length l.groups) (returns-in-None-clause-lease c) ∙ lent_count c.args.self.now (c.args.from / 32) (c.args.to / 32 + 1 - c.args.from / 32) (omega arith)
+    ap (λ (l : Lent). length l.groups) (returns-in-None-clause-lease c) ∙ lent_count c.args.self.now (c.args.from / 32) (c.args.to / 32 + 1 - c.args.from / 32)
+    (omega arith)
 
 pub returns-in-None-clause-size : goal.returns-in-None-clause-size
 returns-in-None-clause-size c =

@@ -12,5 +12,6 @@ returns-clause-point g c =
     let same : now ≡ es = c.as_slice-entries.ensures.value in
     let rising : IsNonDecreasingBy key now = rw same (search rules) in
     let k = c.key_of-key.result in
-    let point = IsPartitionPoint-from_clause (λ e. ltb (key e) k) now _ c.partition_point.ensures.partitioned (IsPartitionedBy-ltb key now k rising) (λ a r q h. search rules) in
+    let point = IsPartitionPoint-from_clause (λ e. ltb (key e) k) now _ c.partition_point.ensures.partitioned (IsPartitionedBy-ltb key now k rising)
+    (λ a r q h. search rules) in
     same-point es now k (key_of c.args.section c.args.number) _ same c.key_of-key.ensures point

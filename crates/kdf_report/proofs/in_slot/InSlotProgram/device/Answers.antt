@@ -9,7 +9,8 @@ use Rattle.kdf_report.proofs.in_slot.InSlotProgram.device.Goals as goal
 pub returns-then-has_device : goal.returns-then-has_device
 returns-then-has_device c =
     let x = c.args.self.now in
-    device_there (state_of x.machine.now x.slot.now.p) (shown_slot x.slot.now) (start_of None) c.args.d (option_copied c.device.result) x.there x.numbers c.requires
+    device_there (state_of x.machine.now x.slot.now.p) (shown_slot x.slot.now) (start_of None) c.args.d (option_copied c.device.result) x.there x.numbers
+    c.requires
     (sym (any_number x.slot.now.devices.items c.args.d) ∙ sym c.has_device.ensures ∙ c.if-has_device.true) (c.device.ensures.own x.slot.now.p)
 
 pub returns-else-has_device : goal.returns-else-has_device

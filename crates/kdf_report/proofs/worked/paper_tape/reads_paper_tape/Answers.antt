@@ -1,4 +1,7 @@
-use Rattle.kdf_report.proofs.WorkedPaperTape.{reads_tape, reader_flag_when_the_tape_ends, reader_just_to_the_end, fetches_what_was_read, reads_into_its_own_group, reads_nothing_behind_the_end_of_tape, reads_past_the_end_message_to_the_end_of_tape, reads_tape_that_ends_within_the_area, reads_up_to_the_end_message, tape_is_read_over_the_orders, one_that_isnt_claimed, is_answered_nought}
+use Rattle.kdf_report.proofs.WorkedPaperTape.{reads_tape, reader_flag_when_the_tape_ends, reader_just_to_the_end, fetches_what_was_read}
+use Rattle.kdf_report.proofs.WorkedPaperTape.{reads_into_its_own_group, reads_nothing_behind_the_end_of_tape, reads_past_the_end_message_to_the_end_of_tape}
+use Rattle.kdf_report.proofs.WorkedPaperTape.{reads_tape_that_ends_within_the_area, reads_up_to_the_end_message, tape_is_read_over_the_orders}
+use Rattle.kdf_report.proofs.WorkedPaperTape.{one_that_isnt_claimed, is_answered_nought}
 use Rattle.kdf_report.proofs.worked.paper_tape.reads_paper_tape.Goals as goal
 
 pub returns-clause-reads_tape : goal.returns-clause-reads_tape

@@ -1,4 +1,7 @@
-use Rattle.kdf_report.proofs.WorkedPrograms.{adds_5_and_7, stops_after_four_orders, spool_up_to_the_end_message, spool_without_an_end_message, out_3, out_4_without_tape, out_5_of_kind_5, out_5_without_tr, out_8_of_stream_8, out_8_of_an_area_outside, out_8_of_a_falling_area, out_negative, out_of_none, out_4_of_one_word, rewind_without_a_claim, pushes_17_zeros, ends_nowhere, adds_in_part_1}
+use Rattle.kdf_report.proofs.WorkedPrograms.{adds_5_and_7, stops_after_four_orders, spool_up_to_the_end_message, spool_without_an_end_message, out_3}
+use Rattle.kdf_report.proofs.WorkedPrograms.{out_4_without_tape, out_5_of_kind_5, out_5_without_tr, out_8_of_stream_8, out_8_of_an_area_outside}
+use Rattle.kdf_report.proofs.WorkedPrograms.{out_8_of_a_falling_area, out_negative, out_of_none, out_4_of_one_word, rewind_without_a_claim, pushes_17_zeros}
+use Rattle.kdf_report.proofs.WorkedPrograms.{ends_nowhere, adds_in_part_1}
 use Rattle.kdf_report.proofs.worked.programs.runs_without_devices.Goals as goal
 
 pub returns-clause-adds_5_and_7 : goal.returns-clause-adds_5_and_7

@@ -1,4 +1,7 @@
-use Rattle.kdf_report.proofs.WorkedPunches.{punch_of_a_whole_word, punch_without_an_end_message, least_number_of_the_kind, ends_behind_its_punch, fails_behind_two_punches, fails_behind_its_punch, punches_the_last_word_of_the_store, ten_words_moved_to_the_punch, area_behind_the_store_fails, area_of_4097_words_fails, area_that_falls_fails, the_least_that_is_free_is_claimed_device_15_last}
+use Rattle.kdf_report.proofs.WorkedPunches.{punch_of_a_whole_word, punch_without_an_end_message, least_number_of_the_kind, ends_behind_its_punch}
+use Rattle.kdf_report.proofs.WorkedPunches.{fails_behind_two_punches, fails_behind_its_punch, punches_the_last_word_of_the_store, ten_words_moved_to_the_punch}
+use Rattle.kdf_report.proofs.WorkedPunches.{area_behind_the_store_fails, area_of_4097_words_fails, area_that_falls_fails}
+use Rattle.kdf_report.proofs.WorkedPunches.{the_least_that_is_free_is_claimed_device_15_last}
 use Rattle.kdf_report.proofs.worked.punches.punches_paper_tape.Goals as goal
 
 pub returns-clause-punch_of_a_whole_word : goal.returns-clause-punch_of_a_whole_word

@@ -1,4 +1,9 @@
-use Rattle.kdf_report.proofs.WorkedTapes.{tape_at_the_beginning, tape_last_block_mark, tape_no_last_block_mark, tape_not_at_the_beginning, tape_read_backward_a_short_block, tape_read_backward_at_the_beginning, tape_read_behind_the_last_block, tape_read_forward_into_a_short_area, tape_read_forward_two_blocks, tape_rewound, tape_skip_back_sees_the_first_block, tape_skip_sees_the_mark, tape_skipped_back_to_the_beginning, tape_skipped_by_two, tape_skipped_to_the_end, claims_the_tape_of_label_abcdefgh, skips_and_reads_a_tape_backward, tape_mark_goes_behind_the_last_block, tape_written_in_the_middle, tape_written_with_the_mark, copies_a_tape}
+use Rattle.kdf_report.proofs.WorkedTapes.{tape_at_the_beginning, tape_last_block_mark, tape_no_last_block_mark, tape_not_at_the_beginning}
+use Rattle.kdf_report.proofs.WorkedTapes.{tape_read_backward_a_short_block, tape_read_backward_at_the_beginning, tape_read_behind_the_last_block}
+use Rattle.kdf_report.proofs.WorkedTapes.{tape_read_forward_into_a_short_area, tape_read_forward_two_blocks, tape_rewound, tape_skip_back_sees_the_first_block}
+use Rattle.kdf_report.proofs.WorkedTapes.{tape_skip_sees_the_mark, tape_skipped_back_to_the_beginning, tape_skipped_by_two, tape_skipped_to_the_end}
+use Rattle.kdf_report.proofs.WorkedTapes.{claims_the_tape_of_label_abcdefgh, skips_and_reads_a_tape_backward, tape_mark_goes_behind_the_last_block}
+use Rattle.kdf_report.proofs.WorkedTapes.{tape_written_in_the_middle, tape_written_with_the_mark, copies_a_tape}
 use Rattle.kdf_report.proofs.worked.tapes.moves_magnetic_tape.Goals as goal
 
 pub returns-clause-tape_at_the_beginning : goal.returns-clause-tape_at_the_beginning

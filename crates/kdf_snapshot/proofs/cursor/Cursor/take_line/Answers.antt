@@ -10,7 +10,8 @@ invariant_of-self c =
     let here = ap length c.take_line-line.ensures.text in
     let short : length c.take_line-line.result.text.now ≤ length old.lines.rest.now = omega (arith, here, short_ahead old.lines) in
     record {
-      in_range = bounded (2 ^ 32) old.offset (length c.take_line-line.result.text.now) (length old.lines.rest.now) (length c.take_line-line.new.self.rest.now) old.lines.number c.take_line-line.new.self.number
+      in_range = bounded (2 ^ 32) old.offset (length c.take_line-line.result.text.now) (length old.lines.rest.now) (length c.take_line-line.new.self.rest.now)
+          old.lines.number c.take_line-line.new.self.number
           old.in_range short c.take_line-line.ensures.within (c.take_line-line.ensures.next (some_ahead old.lines.rest.now c.requires));
     }
 

@@ -20,18 +20,26 @@ put_run-requires-clause-inside c =
 pub put_run-requires-clause-given : goal.put_run-requires-clause-given
 put_run-requires-clause-given c =
     let f = c.args.self.now in
-    omega (arith, length-words_of c.in-Some.codes.now, run_given f.order f.area.first f.area.last f.lease (fixture_of f.device) (progress_of f.device) c.in-Some.codes.now f.total c.in-Some.ensures c.requires.flying.total)
+    omega (
+      arith,
+      length-words_of c.in-Some.codes.now,
+      run_given f.order f.area.first f.area.last f.lease (fixture_of f.device)
+          (progress_of f.device) c.in-Some.codes.now f.total c.in-Some.ensures c.requires.flying.total,
+    )
 
 -- the lease has all words
-lease_is : (c : After-put_run) → c.put_run.new.lease ≡ option_map (put_words (drop c.args.self.now.moved (moves_of (motion_of c.args.self.now)))) c.args.self.now.lease
+lease_is : (c : After-put_run) → c.put_run.new.lease ≡ option_map (put_words (drop c.args.self.now.moved (moves_of (motion_of c.args.self.now))))
+    c.args.self.now.lease
 lease_is c =
     let f = c.args.self.now in
     c.put_run.ensures
     ∙ ap (λ ws. option_map (put_words (drop f.moved (addressed f.order f.area.first f.area.last ws))) f.lease)
-    (run_all f.order f.area.first f.area.last f.lease (fixture_of f.device) (progress_of f.device) c.in-Some.codes.now f.total c.in-Some.ensures c.requires.flying.total)
+    (run_all f.order f.area.first f.area.last f.lease (fixture_of f.device) (progress_of f.device) c.in-Some.codes.now f.total c.in-Some.ensures
+    c.requires.flying.total)
 
 -- the words stay the same
-same : (c : After-put_run) → all_words c.args.self.now.order c.args.self.now.area.first c.args.self.now.area.last c.put_run.new.lease (fixture_of c.args.self.now.device) (progress_of c.args.self.now.device) ≡ words_of (motion_of c.args.self.now)
+same : (c : After-put_run) → all_words c.args.self.now.order c.args.self.now.area.first c.args.self.now.area.last c.put_run.new.lease
+    (fixture_of c.args.self.now.device) (progress_of c.args.self.now.device) ≡ words_of (motion_of c.args.self.now)
 same c =
     let f = c.args.self.now in
     words-lease f.order f.area.first f.area.last c.put_run.new.lease f.lease (fixture_of f.device) (progress_of f.device)
@@ -41,7 +49,8 @@ pub returns-in-Some-clause-motion : goal.returns-in-Some-clause-motion
 returns-in-Some-clause-motion c =
     let f = c.args.self.now in
     let within : f.moved ≤ total_of (motion_of f) = omega (arith, c.requires.flying.moved, c.requires.flying.total) in
-    ended_input (motion_of f) f.total c.put_run.new.lease within c.requires.flying.total c.requires.input (lease_is (goal.at.returns-in-Some-clause-motion c).After-put_run)
+    ended_input (motion_of f) f.total c.put_run.new.lease within c.requires.flying.total c.requires.input
+    (lease_is (goal.at.returns-in-Some-clause-motion c).After-put_run)
 
 pub returns-in-Some-clause-flying : goal.returns-in-Some-clause-flying
 returns-in-Some-clause-flying c =
@@ -55,7 +64,8 @@ returns-in-Some-clause-flying c =
       spare = c.requires.flying.spare;
       few = c.requires.flying.few;
       lease = ap is_some (lease_is at) ∙ some-moved true ms f.lease ∙ c.requires.flying.lease;
-      area = λ has. subst (λ l. Covers l f.area.first f.area.last) (sym (lease_is at)) (covers-moved true ms f.lease f.area.first f.area.last (c.requires.flying.area has));
+      area = λ has. subst (λ l. Covers l f.area.first f.area.last) (sym (lease_is at))
+          (covers-moved true ms f.lease f.area.first f.area.last (c.requires.flying.area has));
       total = all;
       moved = omega arith;
       ring = c.clear.ensures ∙ ring_ended words f.total (omega (arith, all));

@@ -34,7 +34,8 @@ deliver-requires-clause-inside c =
 pub deliver-requires-clause-room : goal.deliver-requires-clause-room
 deliver-requires-clause-room c = λ not.
     let f = c.args.self.now in
-    let h = room_more (is_input f.order) f.block.items (words_of (motion_of f)) f.moved f.total _ c.requires.flying.block c.requires.flying.total c.requires.more c.requires.flying.room not in
+    let h = room_more (is_input f.order) f.block.items (words_of (motion_of f)) f.moved f.total _ c.requires.flying.block c.requires.flying.total
+    c.requires.more c.requires.flying.room not in
     omega (arith, h, f.block.ok.0)
 
 pub overflow_add-self-2 : goal.overflow_add-self-2
@@ -43,7 +44,8 @@ overflow_add-self-2 c =
     omega (arith, more at, few at, (covers at).few)
 
 -- the words stay the same
-same : (c : After-deliver) → all_words c.args.self.now.order c.args.self.now.area.first c.args.self.now.area.last c.deliver.new.lease (fixture_of c.args.self.now.device) (progress_of c.args.self.now.device) ≡ words_of (motion_of c.args.self.now)
+same : (c : After-deliver) → all_words c.args.self.now.order c.args.self.now.area.first c.args.self.now.area.last c.deliver.new.lease
+    (fixture_of c.args.self.now.device) (progress_of c.args.self.now.device) ≡ words_of (motion_of c.args.self.now)
 same c =
     let f = c.args.self.now in
     words-lease f.order f.area.first f.area.last c.deliver.new.lease f.lease (fixture_of f.device) (progress_of f.device)
@@ -52,13 +54,15 @@ same c =
 pub next_word-next-requires-clause-lease : goal.next_word-next-requires-clause-lease
 next_word-next-requires-clause-lease c =
     let f = c.args.self.now in
-    ap is_some c.deliver.ensures.lease ∙ some-written (is_input f.order) (place_of f.order f.area.first f.area.last f.moved) c.pop-word.result f.lease ∙ c.requires.flying.lease
+    ap is_some c.deliver.ensures.lease ∙ some-written (is_input f.order) (place_of f.order f.area.first f.area.last f.moved) c.pop-word.result f.lease
+    ∙ c.requires.flying.lease
 
 pub next_word-next-requires-clause-area : goal.next_word-next-requires-clause-area
 next_word-next-requires-clause-area c = λ has.
     let f = c.args.self.now in
     subst (λ l. Covers l f.area.first f.area.last) (sym c.deliver.ensures.lease)
-    (covers-written (is_input f.order) (place_of f.order f.area.first f.area.last f.moved) c.pop-word.result f.area.first f.area.last f.lease (c.requires.flying.area has))
+    (covers-written (is_input f.order) (place_of f.order f.area.first f.area.last f.moved) c.pop-word.result f.area.first f.area.last f.lease
+    (c.requires.flying.area has))
 
 pub next_word-next-requires-clause-total : goal.next_word-next-requires-clause-total
 next_word-next-requires-clause-total c = c.requires.flying.total ∙ ap length (sym (same (goal.at.next_word-next-requires-clause-total c).After-deliver))
@@ -82,18 +86,22 @@ returns-clause-flying c =
       kind = c.requires.flying.kind;
       spare = c.requires.flying.spare;
       few = c.requires.flying.few;
-      lease = ap is_some c.deliver.ensures.lease ∙ some-written (is_input f.order) (place_of f.order f.area.first f.area.last f.moved) c.pop-word.result f.lease ∙ c.requires.flying.lease;
+      lease = ap is_some c.deliver.ensures.lease ∙ some-written (is_input f.order) (place_of f.order f.area.first f.area.last f.moved) c.pop-word.result
+          f.lease ∙ c.requires.flying.lease;
       area = λ has. subst (λ l. Covers l f.area.first f.area.last) (sym c.deliver.ensures.lease)
-          (covers-written (is_input f.order) (place_of f.order f.area.first f.area.last f.moved) c.pop-word.result f.area.first f.area.last f.lease (c.requires.flying.area has));
+          (covers-written (is_input f.order) (place_of f.order f.area.first f.area.last f.moved) c.pop-word.result f.area.first f.area.last f.lease
+          (c.requires.flying.area has));
       total = c.requires.flying.total ∙ ap length (sym (same later));
       moved = omega (arith, c.requires.more);
       ring =
           c.refill.ensures
           ∙ ap (λ xs. c.pop-word.new.self ++ xs) c.next_word-next.ensures
-          ∙ ap (λ xs. xs ++ take 1 (drop (f.moved + 1 + 7) (all_words f.order f.area.first f.area.last c.deliver.new.lease (fixture_of f.device) (progress_of f.device)))) front.1
+          ∙ ap (λ xs. xs ++ take 1 (drop (f.moved + 1 + 7) (all_words f.order f.area.first f.area.last c.deliver.new.lease (fixture_of f.device)
+          (progress_of f.device)))) front.1
           ∙ ap (λ xs. take 7 (drop (f.moved + 1) ws) ++ take 1 (drop (f.moved + 1 + 7) xs)) (same later)
           ∙ ring_more ws f.moved
           ∙ ap (λ xs. take 8 (drop (f.moved + 1) xs)) (sym (same later));
-      block = block_more (is_input f.order) f.block.items c.deliver.new.block.items ws _ f.moved c.pop-word.result c.requires.flying.block c.deliver.ensures.block (more at) front.0 (same later);
+      block = block_more (is_input f.order) f.block.items c.deliver.new.block.items ws _ f.moved c.pop-word.result c.requires.flying.block
+          c.deliver.ensures.block (more at) front.0 (same later);
       room = λ not. subst (λ n. 8 * f.total ≤ n) (sym c.deliver.ensures.capacity) (c.requires.flying.room not);
     }

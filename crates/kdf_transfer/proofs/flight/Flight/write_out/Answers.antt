@@ -19,7 +19,8 @@ push_run-requires-clause-inside c =
 words : (c : In-Some) → lent_words c.in-Some.lease c.args.self.now.area.first c.args.self.now.total ≡ words_of (motion_of c.args.self.now)
 words c =
     let f = c.args.self.now in
-    out_words f.order f.area.first f.area.last f.lease (fixture_of f.device) (progress_of f.device) c.in-Some.lease f.total c.in-Some.is c.requires.flying.lease c.requires.output c.requires.flying.total
+    out_words f.order f.area.first f.area.last f.lease (fixture_of f.device) (progress_of f.device) c.in-Some.lease f.total c.in-Some.is
+    c.requires.flying.lease c.requires.output c.requires.flying.total
 
 pub push_run-requires-clause-block : goal.push_run-requires-clause-block
 push_run-requires-clause-block c =
@@ -59,5 +60,6 @@ pub returns-in-None-clause-motion : goal.returns-in-None-clause-motion
 returns-in-None-clause-motion c =
     let f = c.args.self.now in
     let within : f.moved ≤ total_of (motion_of f) = omega (arith, c.requires.flying.moved, c.requires.flying.total) in
-    let none : f.total ≡ 0 = c.requires.flying.total ∙ none_left f.order f.area.first f.area.last f.lease (fixture_of f.device) (progress_of f.device) c.in-None.is c.requires.flying.lease in
+    let none : f.total ≡ 0 = c.requires.flying.total ∙ none_left f.order f.area.first f.area.last f.lease (fixture_of f.device)
+    (progress_of f.device) c.in-None.is c.requires.flying.lease in
     sym (ap (λ n. moved_by n (motion_of f)) none ∙ moved_none (motion_of f) within)

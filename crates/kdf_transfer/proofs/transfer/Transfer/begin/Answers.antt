@@ -17,5 +17,6 @@ invariant_of-result c =
       moved = omega arith;
       ring = c.fill.ensures;
       block = no_block c.args.order ws c.args.block.items c.requires.block;
-      room = room_first c.args.order c.args.area.first c.args.area.last c.count_words-total.result _ c.args.lease (fixture_of c.args.device) (progress_of c.args.device) c.count_words-total.ensures.value c.requires.room;
+      room = room_first c.args.order c.args.area.first c.args.area.last c.count_words-total.result _ c.args.lease (fixture_of c.args.device)
+          (progress_of c.args.device) c.count_words-total.ensures.value c.requires.room;
     }

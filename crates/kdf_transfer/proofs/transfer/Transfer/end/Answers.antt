@@ -31,7 +31,8 @@ returns-clause-lease c = c.finish.ensures.lease ∙ ap (λ (t : Motion). t.lease
 pub returns-clause-some : goal.returns-clause-some
 unfolding moved_by
 returns-clause-some c =
-    ap is_some c.finish.ensures.lease ∙ c.run_out.ensures.flying.lease ∙ ap (λ (t : Motion). has_area t.order) (whole (goal.at.returns-clause-some c).After-run_out)
+    ap is_some c.finish.ensures.lease ∙ c.run_out.ensures.flying.lease
+    ∙ ap (λ (t : Motion). has_area t.order) (whole (goal.at.returns-clause-some c).After-run_out)
 
 pub returns-clause-covers : goal.returns-clause-covers
 unfolding moved_by

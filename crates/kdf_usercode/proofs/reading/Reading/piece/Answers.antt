@@ -20,7 +20,8 @@ returns-then-k-ne42 c =
     on_ok_weaker c.statement.result
     (λ reads. λ len front ws tail.
     outcome-statement c.loop-i.self c.statement.new.self (made c.deref.result.now) len front ws tail reads
-    ∙ ap (λ (x : List Parsed). outcome c.loop-i.self.phase c.loop-i.self.best c.loop-i.self.statements.items len front (x ++ ws) tail) (ap (λ (cs : List ℕ). made cs ∷ []) text ∙ sym last)
+    ∙ ap (λ (x : List Parsed). outcome c.loop-i.self.phase c.loop-i.self.best c.loop-i.self.statements.items len front (x ++ ws) tail)
+    (ap (λ (cs : List ℕ). made cs ∷ []) text ∙ sym last)
     ∙ c.loop-i.invariant len front ws tail)
     c.statement.ensures
 

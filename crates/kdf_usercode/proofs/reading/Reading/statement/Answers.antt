@@ -17,7 +17,8 @@ returns-in-Some c =
     let text = c.deref.ensures.value ∙ c.in_ok-shape_into.ensures in
     let numbers = c.deref-in-Some.ensures.value ∙ c.in_ok-numbers_into.ensures in
     on_ok_weaker c.form.result
-    (λ gains. reads-form c.args.self.now c.form.new.self s c.in-Some.form (sym c.if-is_ended.ensures) (ap (λ x. form_in x c.args.text.now) (sym text) ∙ sym c.in-Some.ensures)
+    (λ gains. reads-form c.args.self.now c.form.new.self s c.in-Some.form (sym c.if-is_ended.ensures) (ap (λ x. form_in x c.args.text.now) (sym text)
+    ∙ sym c.in-Some.ensures)
     (reads-capped c.args.self.now c.form.new.self c.args.place c.in-Some.form s.numbers c.args.text.now
     (subst (λ (ns : List ℕ). ReadsForm c.args.self.now c.form.new.self c.args.place c.in-Some.form ns c.args.text.now) numbers gains)))
     c.form.ensures
