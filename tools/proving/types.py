@@ -9,7 +9,7 @@ NUMBERS = {"u8", "u16", "u32", "u64", "u128", "usize"}
 SIGNED = {"i8", "i16", "i32", "i64", "i128", "isize"}
 
 # How contracts see the types of the library and of the kit's crates: the words of such a value.
-HOLDERS = {"Vec": "items", "ArrayVec": "items", "CircularBuffer": "items", "Box": "value"}
+HOLDERS = {"Vec": "items", "ArrayVec": "items", "CircularBuffer": "items", "Box": "value", "Rc": "value"}
 
 
 def substituted(kind: Type, values: Dict[str, Type]) -> Type:

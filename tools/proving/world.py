@@ -349,7 +349,7 @@ class World:
             return ("con", f"std.Prelude.{head}", tuple(args))
         if head in HOLDERS and args:
             inner_kind = args[-1] if head == "CircularBuffer" else args[0]
-            return ("con", f"holder.{head}", (inner_kind if head == "Box" else ("con", LIST, (inner_kind,)),))
+            return ("con", f"holder.{head}", (inner_kind if HOLDERS[head] == "value" else ("con", LIST, (inner_kind,)),))
         own = f"{file.crate}.{file.module}.{head}"
         key = own if own in self.types else self.code_named(file, head, dict(file.uses).get(head, f"crate::{head}"))
         return self.model(key, args) if key else None
