@@ -93,6 +93,7 @@ def kept_is_little() -> Cases:
         lock = os.open(checkout.folder / "crates/kdf_nest", os.O_RDONLY)
         fcntl.flock(lock, fcntl.LOCK_EX)
         yield "clean beside a proof", differs(checkout.start("clean"), 1, "", "crates/kdf_nest: a build or a proof is going on there")
+        fcntl.flock(lock, fcntl.LOCK_UN)
         os.close(lock)
         run = checkout.start("clean")
         good = run[0] == 0 and not run[2] and "given back: " in run[1] and not any(is_kept(checkout, it) for it in ("kdf_word", "kdf9"))
