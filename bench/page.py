@@ -8,7 +8,7 @@ Figures = Dict[str, float]
 
 PAGE = """# How fast it is
 
-`bench/speed --write` wrote this page and `bench/figures.json` on {day}. It took {minutes} minutes, while {load} other processes were working or waiting.
+`bench/speed --write` wrote this page and `bench/figures.json` on {day}. It took {minutes} minutes, at a load of {load} (other processes that were working or waiting).
 
 A busy machine takes more seconds, but not more instructions. So `bench/speed` counts instructions, by valgrind's callgrind, and measures memory. It ends with status 1 if anything takes over a tenth more
 than `bench/figures.json` has, or if this page has other figures. Nothing depends on seconds. It needs Linux, Python 3, valgrind, and gcc or clang, and the program has to be built.
