@@ -17,6 +17,9 @@ def plain(word: str, _of: str = "") -> str:
     """A word of the code that is no link."""
     return f"<code>{html.escape(word)}</code>"
 
+# A picture of a document, which this page doesn't show: the text says what is in it.
+PICTURE = re.compile(r"!\[[^\]]*\]\([^)]*\)")
+
 
 def inline(text: str, linked: Linked = plain) -> str:
     """A line of a document as HTML."""
@@ -49,7 +52,7 @@ def table(lines: List[str], linked: Linked) -> str:
 def prose(text: str, linked: Linked = plain, level: int = 4) -> str:
     """Some paragraphs, lists, tables and blocks of a document as HTML."""
     found: List[str] = []
-    lines = text.strip("\n").split("\n")
+    lines = [line for line in text.strip("\n").split("\n") if not PICTURE.fullmatch(line.strip())]
     while lines:
         line = lines.pop(0)
         fence, heading, item = FENCE.fullmatch(line), HEADING.fullmatch(line), ITEM.match(line)

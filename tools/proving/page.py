@@ -23,6 +23,11 @@ PARTS = {"theorem": "The theorem", "map": "The map", "believe": "What must I bel
 LIBRARY, NOTATION, CODE = ("library",), ("notation",), ("struct", "enum", "const", "trait", "type")
 
 
+def counted(number: int, what: str) -> str:
+    """So many of something."""
+    return f"{number} {what}{'' if number == 1 else 's'}"
+
+
 class Site:
     """All that the page has, from the repository in this folder."""
 
@@ -82,8 +87,8 @@ class Site:
         return f'<a href="#{html.escape(key)}">{documents.plain(word)}</a>' if key else documents.plain(word)
 
     def linked_order(self, word: str, _of: str = "") -> str:
-        """A word of the code in a rule: a link to what an order does, if it is the name of one."""
-        key = self.orders.get(word)
+        """A word of the code in a rule: a link to what an order does, if it is the name of one. A sign by itself may mean something else."""
+        key = self.orders.get(word) if re.search(r"\w", word) else None
         return f'<a href="#{html.escape(key)}">{documents.plain(word)}</a>' if key else documents.plain(word)
 
     def headline(self) -> Tuple[str, str]:
@@ -110,9 +115,9 @@ class Site:
         parts = [
             "<p><code>kdf9</code> is a computer modelled on the English Electric KDF9. It is handed a job: up to four programs, each with its store and devices, and a schedule that says how they take turns. It runs them, and writes a report. It is written in Rattle, which is Rust with contracts.</p>",
             f'<p class="headline block">{once}</p><p class="more-of-it block">{more}</p>',
-            "<p>A program may also go on for ever. What it “ends with” is what it has when the run stops: the same as its run alone has after as many orders. A transfer that is still in flight then is shown as its order found it. "
+            "<p>A program may also go on for ever. What it “ends with” is what it has when the run stops: the same as its run alone has after as many orders. Of a transfer that is still in flight then, the device and the words that have still to move are shown as its order found them. "
             "The theorem doesn't say that a program ends, or gets its turn.</p>",
-            f"<p>It is a theorem about <code>kdf9</code> as it is shipped: {len(self.order):,} definitions say what its words mean, and of the code it is proved that it meets them. <a href=\"#believe\">What must I believe?</a> has what is only tested or trusted. "
+            f"<p>It is a theorem about <code>kdf9</code> as it is shipped: {len(self.order):,} definitions say what its words mean, and it is proved that the code meets them. <a href=\"#believe\">What must I believe?</a> has what is only tested or trusted. "
             'Choose a word to open its definition below it, and a word of that, down to whole numbers and lists. <a href="#help">How to read this</a> says what job, journal, order and call mean here.</p>',
             f'<h2>The heart of it</h2><p>If a job has no fault, and neither memory nor reading nor writing fails, a run of it makes a machine of which this holds.</p><div data-entry="{HEART}"></div>',
             f"<h2>Its steps</h2><p>Each step rests on those below it.</p>{self.steps()}",
@@ -170,9 +175,11 @@ class Site:
             '<a href="#kdf_director.machine.Machine::word"><code>Machine::word</code></a>, say how a caller sees that.</p>',
             "<h2>What isn't proved</h2><p>In short: it is only tested that memory suffices, and what passes through standard input and output. By the contract alone, <code>Memory</code> could be the answer each time.</p>",
         ]
+        questions = "".join(f"<dt>{html.escape(asked)}</dt><dd>{documents.inline(answer, self.linked)}</dd>" for asked, answer in self.tables["questions"])
         for title, kind, text in documents.unproved(self.text(PROOFS), self.linked):
             state = f' <span class="state {kind}">{kind}</span>' if kind != "neither" else ""
             parts.append(f'<details class="unproved" id="{kind}"><summary>{title}{state}</summary>{text}</details>')
+        parts.append(f"<h2>What readers have asked</h2><dl>{questions}</dl>")
         for name, title in (("definitions", "The definitions, in the sequence in which to read them"), ("code", "The types of the code that they use"), ("library", "The words of the library"), ("notation", "The words that clauses are written in")):
             parts.append(f'<h2>{title}</h2><div data-list="{name}"></div>')
         return "".join(parts)
@@ -189,7 +196,7 @@ class Site:
                 f'<h4>{title}</h4><ul class="list">' + "".join(f'<li><a href="#{html.escape(entry["k"])}"><code>{html.escape(entry["n"])}</code></a></li>' for entry in each) + "</ul>"
                 for title, each in (("Calls", calls), ("Laws", laws)) if each
             )
-            parts.append(f'<details><summary><code>{name}</code>: {len(calls)} calls, {len(laws)} laws <span class="state {crate.state}">{crate.state}</span></summary><p><a href="#{name}">The crate</a></p>{lists}</details>')
+            parts.append(f'<details><summary><code>{name}</code>: {counted(len(calls), "call")}, {counted(len(laws), "law")} <span class="state {crate.state}">{crate.state}</span></summary><p><a href="#{name}">The crate</a></p>{lists}</details>')
         return "".join(parts)
 
     def rules(self) -> str:
@@ -210,6 +217,7 @@ class Site:
             "The trail on top says how you came there: choose a step of it to go back, or use the button Back of the browser, or Escape.</p>"
             "<p>A word in <i>this</i> colour is a definition; words of the library, types of the code, and variables have colours of their own. If you choose a variable, each place where it stands is marked. "
             "A name in the address, such as <code>#kdf_lockout.Groups.is_out</code>, opens that definition by itself. The key <kbd>/</kbd> goes to the search.</p>"
+            "<p><code>abbrev</code> and <code>unfoldable</code> say when the prover puts a definition in place of its name, and <code>pub</code> that other files use it: none of them changes what it means. A name with a dot, such as <code>course.IsWhole</code>, is that of another file.</p>"
             "<p><span class=\"state proved\">proved</span> means that the prover has checked that the code meets its contracts, for every input that they allow; <span class=\"state tested\">tested</span> that only tests do; <span class=\"state trusted\">trusted</span> that it is believed. A contract is what a call says of its results, clause by clause; a law is proved of definitions alone.</p>"
             f"<h2>Words with a meaning of their own</h2><ul>{meanings}</ul>"
             '<h2>The words that clauses are written in</h2><div data-list="notation"></div>'
