@@ -175,7 +175,7 @@ class Site:
             '<a href="#kdf_director.machine.Machine::word"><code>Machine::word</code></a>, say how a caller sees that.</p>',
             "<h2>What isn't proved</h2><p>In short: it is only tested that memory suffices, and what passes through standard input and output. By the contract alone, <code>Memory</code> could be the answer each time.</p>",
         ]
-        questions = "".join(f"<dt>{html.escape(asked)}</dt><dd>{documents.inline(answer, self.linked)}</dd>" for asked, answer in self.tables["questions"])
+        questions = "".join(f"<dt>{documents.inline(asked, self.linked)}</dt><dd>{documents.inline(answer, self.linked)}</dd>" for asked, answer in self.tables["questions"])
         for title, kind, text in documents.unproved(self.text(PROOFS), self.linked):
             state = f' <span class="state {kind}">{kind}</span>' if kind != "neither" else ""
             parts.append(f'<details class="unproved" id="{kind}"><summary>{title}{state}</summary>{text}</details>')
