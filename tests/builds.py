@@ -1,4 +1,5 @@
 """Tries what a build says before and while it goes on, and what it keeps: the disk that it wants, how long the rest takes, and `./kdf9 clean`."""
+import contextlib
 import fcntl
 import os
 import pathlib
@@ -184,6 +185,16 @@ with open(engine.LOG, "w") as log:
 """
 
 
+def read_whole(ours: int) -> bytes:
+    """All that was written to a terminal whose other end is closed: the system hands it on piece by piece, and then says that there is none."""
+    pieces = []
+    with contextlib.suppress(OSError):
+        while piece := os.read(ours, 65536):
+            pieces.append(piece)
+    os.close(ours)
+    return b"".join(pieces)
+
+
 def page_shows_its_stages() -> Cases:
     """While the page is made, each stage has a line; on a terminal it is drawn each second."""
     lines = ["its calls are proved, 1 of 2", "it is compiled, 2 of 2"]
@@ -197,8 +208,7 @@ def page_shows_its_stages() -> Cases:
         fcntl.ioctl(theirs, termios.TIOCSWINSZ, struct.pack("HHHH", 24, 132, 0, 0))
         subprocess.run(words, cwd=ROOT / "tools", stdout=subprocess.DEVNULL, stderr=theirs, check=False)
         os.close(theirs)
-        drawn = os.read(ours, 65536).decode("ascii")
-        os.close(ours)
+        drawn = read_whole(ours).decode("ascii")
         due = [f"\r\x1b[Kkdf9: the machine for other programs: {line}, 0:0" for line in lines]
         good = all(line in drawn for line in due) and ", 3 of 41 functions" in drawn.split(lines[1])[0] and "functions" not in drawn.split(lines[1])[1]
         yield "the stages of the page on a terminal", None if good else f"{drawn!r}"
