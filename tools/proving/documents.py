@@ -9,6 +9,9 @@ ITEM = re.compile(r"(?:[-*]|\d+\.) +(.*)")
 INLINE = re.compile(r"`([^`]+)`(?= of `(\w+)`)?|\*\*((?:[^*`]|`[^`]*`)+)\*\*|\\([*<|_\\])")
 HEADING = re.compile(r"(#+) (.*)")
 
+# A picture of a document, which this page doesn't show: the text says what is in it.
+PICTURE = re.compile(r"!\[[^\]]*\]\([^)]*\)")
+
 # Makes a link of a word of the code in a document, if it means an entry of the page; or leaves it as it is. A crate may be named with the word.
 Linked = Callable[[str, str], str]
 
@@ -16,9 +19,6 @@ Linked = Callable[[str, str], str]
 def plain(word: str, _of: str = "") -> str:
     """A word of the code that is no link."""
     return f"<code>{html.escape(word)}</code>"
-
-# A picture of a document, which this page doesn't show: the text says what is in it.
-PICTURE = re.compile(r"!\[[^\]]*\]\([^)]*\)")
 
 
 def inline(text: str, linked: Linked = plain) -> str:
