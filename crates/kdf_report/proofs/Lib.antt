@@ -9,9 +9,3 @@ pub mod ShortDecimals
 pub mod SeenPrograms
 pub mod SummaryTexts
 pub mod TwoWorlds
-pub mod WorkedPaperTape
-pub mod WorkedPunches
-pub mod WorkedCards
-pub mod WorkedPrinters
-pub mod WorkedTapes
-pub mod WorkedPrograms

@@ -4,5 +4,4 @@ pub mod Loaded
 pub mod MadeFrom
 pub mod Summary
 pub mod Text
-pub mod Worked
 pub mod Worlds

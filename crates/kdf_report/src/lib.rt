@@ -19,7 +19,6 @@ mod shows;
 mod spool;
 mod stints;
 mod summaries;
-pub mod worked;
 
 pub use alone::{alone_absent, alone_text};
 pub use entries::write_entries;
