@@ -182,6 +182,7 @@ function crateContent(name) {
   const found = [make("p", {}, make("span", { class: `state ${crate.state}` }, crate.state)), ...paragraphs(crate.says)];
   if (crate.needs.length) found.push(make("p", {}, "It stands on ", ...crate.needs.flatMap((each, at) => [at ? ", " : "", data.crates.find((other) => other.name === each).state === "trusted" ? make("code", {}, each) : make("a", { href: addressOf(each) }, make("code", {}, each))]), "."));
   if (modules.length) found.push(make("h2", {}, "Definitions"), make("ul", {}, ...modules.map((each) => make("li", {}, make("a", { href: addressOf(each) }, make("code", {}, each)), ": ", ...withCode(data.modules[each].s)))));
+  if (crate.longest?.length) found.push(make("h2", {}, "Where its proof is longest"), make("p", {}, `Its proofs have ${crate.lines[1].toLocaleString("en")} lines, beside ${crate.lines[0].toLocaleString("en")} of code with contracts.`), make("ul", {}, ...crate.longest.map(([says, file, lines]) => make("li", {}, ...withCode(says), ` (${lines} lines, `, make("code", {}, file), ")"))));
   for (const [title, kinds] of [["Public calls", ["function"]], ["Laws", ["law"]], ["Computed examples", ["example"]]]) {
     const list = of(kinds);
     if (list.length) found.push(make("h2", {}, title), ...linksTo(list, true));

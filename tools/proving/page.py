@@ -22,10 +22,38 @@ PARTS = {"theorem": "The theorem", "map": "The map", "believe": "What must I bel
 # The kinds of entries that are words of the library, and that are types of the code.
 LIBRARY, NOTATION, CODE = ("library",), ("notation",), ("struct", "enum", "const", "trait", "type")
 
+# Of a crate, so many of its longest files of proofs are named, each with at least so many lines.
+LONGEST, LONG = 3, 100
+
 
 def counted(number: int, what: str) -> str:
     """So many of something."""
     return f"{number} {what}{'' if number == 1 else 's'}"
+
+
+def lines_of(folder: pathlib.Path, pattern: str) -> Dict[pathlib.Path, int]:
+    """The files below a folder that fit a pattern, with how many lines each has."""
+    return {path: len(path.read_text(encoding="utf-8").splitlines()) for path in sorted(folder.glob(pattern))}
+
+
+def shown_by(path: pathlib.Path, proofs: pathlib.Path) -> str:
+    """What a file of proofs is about: what its first line says, or the call whose clauses it answers."""
+    first = path.read_text(encoding="utf-8").partition("\n")[0]
+    inner = path.relative_to(proofs).parent.parts
+    return first[3:] if first.startswith("-- ") else f"What `{'::'.join(inner)}` promises."
+
+
+def sizes(crate: pathlib.Path) -> Dict[str, Any]:
+    """How many lines of code and of proofs a crate has, and its longest files of proofs: where its proof is hard."""
+    proofs = crate / "proofs"
+    lines = lines_of(proofs, "**/*.antt")
+    if not lines:
+        return {}
+    longest = sorted(lines, key=lambda path: (-lines[path], path))[:LONGEST]
+    return {
+        "lines": [sum(lines_of(crate / "src", "**/*.rt").values()), sum(lines.values())],
+        "longest": [[shown_by(path, proofs), str(path.relative_to(crate)), lines[path]] for path in longest if lines[path] >= LONG],
+    }
 
 
 class Site:
@@ -248,7 +276,7 @@ class Site:
             "entries": self.reader.entries, "modules": modules, "top": self.reader.numbers[TOP], "lists": lists, "examples": examples(self.reader),
             "orders": [[name, self.reader.numbers[key]] for name, key in self.orders.items()],
             "rules": [{"path": rule.partition(": ")[0], "name": rule.partition(": ")[2].replace("`", "")} for rule in rules],
-            "crates": [{"name": name, "state": crate.state, "needs": crate.needs, "says": said[name]} for name, crate in self.crates.items()],
+            "crates": [{"name": name, "state": crate.state, "needs": crate.needs, "says": said[name], **sizes(self.root / "crates" / name)} for name, crate in self.crates.items()],
         }
 
     def says_of_crate(self, name: str) -> str:
