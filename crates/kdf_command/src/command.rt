@@ -45,6 +45,9 @@ pub enum Input {
 /// The most bytes that a command reads, but for `resume` and `check`, which read as many as `TEXT_LIMIT` says.
 pub const JOB_LIMIT: usize = 4_194_304;
 
+/// The line that tells how the program is used.
+pub const USAGE: &str = "USAGE kdf9 run, alone K, asm K, make N, save, resume, check, watch K W";
+
 /// The highest number of a slot.
 const LAST_SLOT: u64 = 3;
 
