@@ -4,6 +4,7 @@ use Rattle.kdf_text.specs.Lines.{is_text}
 use Rattle.kdf_text.specs.Numbers.{number_in}
 use Rattle.kdf_job.specs.Made.{made_text}
 use Rattle.kdf_job.specs.declared.job.TheConstants.{TEXT_LIMIT}
+use Rattle.kdf_limits.specs.declared.store.TheConstants.{LAST_ADDRESS, PROGRAM_WORDS}
 use Rattle.kdf_command.specs.declared.command.TheConstants.{JOB_LIMIT}
 use Rattle.kdf_command.specs.declared.command.Input.{Input}
 use Rattle.kdf_command.specs.declared.command.Input.TheVariants.{Read, Made}
@@ -18,9 +19,9 @@ slot_of_word word = number_in 0 3 word
 abbrev pub made_of_word : List ℕ → Option ℕ
 made_of_word word = number_in 0 65535 word
 
--- an address of the largest store as a word: 0 to 8191
+-- an address of the largest store as a word
 abbrev pub address_of_word : List ℕ → Option ℕ
-address_of_word word = number_in 0 8191 word
+address_of_word word = number_in 0 LAST_ADDRESS word
 
 -- the watch at an address of a slot, where there are both
 abbrev pub watch_at : Option ℕ → Option ℕ → Option Command
@@ -139,5 +140,5 @@ HasSlot _ = Unit {0}
 
 -- the address that a command names is one of the largest store
 abbrev pub HasAddress : Command → Type 0
-HasAddress (Watch slot address) = address < 8192
+HasAddress (Watch slot address) = address < PROGRAM_WORDS
 HasAddress _ = Unit {0}
