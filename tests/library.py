@@ -31,7 +31,7 @@ PLAIN, FAULTY = "adds-5-and-7", "missing-reference"
 # The statuses of the library that the program hasn't, or that it gives without a text, and the longest job that is read.
 NO_ROOM, USAGE, JOB, LARGE = 6, 1, 2, 4
 LONGEST = 4194304
-USAGE_LINE = "USAGE kdf9 run, alone K, asm K, make N, save, resume, check, watch K W\n"
+USAGE_LINE = re.search(r"=> (USAGE .*\n)", (ROOT / "tests" / "cases" / "words.table").read_text(encoding="utf-8"))[1]
 
 # How much stack a call may take, and what stands behind the room for a text.
 STACK = 256 << 10

@@ -7,18 +7,18 @@ Cases = Iterator[Tuple[str, Optional[str]]]
 
 # Where a number of tables/job.json stands in the crates: the place in the table, the file, and the constant.
 LINES_IN_CRATES = [
-    ("SLOT", 0, 1, "kdf_job/src/forms.rt", "LAST_SLOT"), ("STORE", 0, 0, "kdf_job/src/forms.rt", "LEAST_STORE"), ("STORE", 0, 1, "kdf_job/src/forms.rt", "MOST_STORE"),
-    ("SHOW", 0, 1, "kdf_job/src/forms.rt", "LAST_ADDRESS"), ("SHOW", 1, 1, "kdf_job/src/forms.rt", "LAST_ADDRESS"), ("DEVICE", 0, 1, "kdf_job/src/forms.rt", "LAST_DEVICE"),
+    ("SLOT", 0, 1, "kdf_job/src/forms.rt", "LAST_SLOT"), ("STORE", 0, 0, "kdf_limits/src/store.rt", "GROUP_WORDS"), ("STORE", 0, 1, "kdf_limits/src/store.rt", "PROGRAM_WORDS"),
+    ("SHOW", 0, 1, "kdf_limits/src/store.rt", "LAST_ADDRESS"), ("SHOW", 1, 1, "kdf_limits/src/store.rt", "LAST_ADDRESS"), ("DEVICE", 0, 1, "kdf_job/src/forms.rt", "LAST_DEVICE"),
     ("MOVE", 0, 1, "kdf_schedule/src/reader.rt", "LAST_DEVICE"), ("MOVE", 1, 1, "kdf_schedule/src/reader.rt", "MOST_WORDS"), ("END", 0, 1, "kdf_schedule/src/reader.rt", "LAST_DEVICE"),
     ("SWAP", 0, 1, "kdf_schedule/src/reader.rt", "LAST_SLOT"), ("SWAP", 1, 1, "kdf_schedule/src/reader.rt", "LAST_SLOT"), ("ORDERS", 0, 1, "kdf_schedule/src/event.rt", "MOST_ORDERS"),
     ("CLOCK", 0, 1, "kdf_text/src/numbers.rt", "GREATEST"),
 ]
 MOST_IN_CRATES = {
-    "slots": ("kdf_journal/src/tally.rt", "SLOTS"), "devices": ("kdf_journal/src/tally.rt", "DEVICES"), "words": ("kdf_job/src/draft.rt", "MOST_WORDS"),
-    "words_of_group": ("kdf_job/src/draft.rt", "GROUP"), "lines_of_schedule": ("kdf_job/src/schedule.rt", "MOST_EVENTS"),
+    "slots": ("kdf_journal/src/tally.rt", "SLOTS"), "devices": ("kdf_journal/src/tally.rt", "DEVICES"), "words": ("kdf_limits/src/store.rt", "PROGRAMS_WORDS"),
+    "words_of_group": ("kdf_limits/src/store.rt", "GROUP_WORDS"), "lines_of_schedule": ("kdf_limits/src/job.rt", "EVENTS"), "bytes": ("kdf_command/src/command.rt", "JOB_LIMIT"),
     "bytes_of_more": ("kdf_job/src/job.rt", "TEXT_LIMIT"), "words_of_area": ("kdf_processor/src/claims.rt", "LONGEST_AREA"),
 }
-LONGEST_IN_CRATES = {"CR": ("kdf_media/src/stack.rt", "CARD_LENGTH"), "MT": ("kdf_job/src/medium.rt", "LONGEST_BLOCK")}
+LONGEST_IN_CRATES = {"CR": ("kdf_media/src/stack.rt", "CARD_LENGTH"), "MT": ("kdf_limits/src/job.rt", "TAPE_BLOCK")}
 
 # The faults of each text: the file, and the type that has them.
 FAULTS_IN_CRATES = {"job": ("kdf_job/src/fault.rt", "JobFault"), "snapshot": ("kdf_snapshot/src/fault.rt", "SnapshotFault"), "deck": ("kdf_usercode/src/fault.rt", "DeckFault")}
@@ -30,8 +30,11 @@ def differs(found: object, due: object) -> Optional[str]:
 
 
 def constant(read: Read, file: str, name: str) -> Optional[int]:
-    """The number of this name in a file of the crates."""
-    found = re.search(rf"\bconst {name}: \w+ = ([0-9_xa-fA-F]+);", read(f"crates/{file}"))
+    """The number of this name in a file of the crates, which may be the one before another."""
+    found = re.search(rf"\bconst {name}: \w+ = (?:([0-9_xa-fA-F]+)|([A-Z_]+) - 1);", read(f"crates/{file}"))
+    if found and found[2]:
+        above = constant(read, file, found[2])
+        return None if above is None else above - 1
     return int(found[1].replace("_", ""), 0) if found else None
 
 

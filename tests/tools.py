@@ -42,6 +42,9 @@ DECK_FAULTS = [
     ("TooLarge", "Y99;\nPROGRAM; FINISH;", 3, 1, "The image has more words than the store."),
 ]
 
+# The most words of all programs together.
+MOST_WORDS = json.loads((ROOT / "tables" / "job.json").read_text(encoding="utf-8"))["most"]["words"]
+
 # The name of a job's fault, the job, the line and the column, and how the sentence on the fault begins.
 JOB_FAULTS = [
     ("BadLine", HEAD + "PRINT 3\n" + TAIL, 7, 1, "this line isn't allowed here"),
@@ -50,7 +53,7 @@ JOB_FAULTS = [
     ("SizeNotGroups", HEAD.replace("64", "65") + TAIL, 3, 7, "the store isn't a multiple of 32"),
     (
         "StoreFull", "KDF9 JOB 1\n" + "".join(HEAD[11:].replace("SLOT 0", f"SLOT {slot}").replace("64", "8192") for slot in range(4)) + TAIL,
-        18, 7, "the stores so far add up to more than 31744 words",
+        18, 7, f"the stores so far add up to more than {MOST_WORDS} words",
     ),
     ("DeviceTwice", HEAD + "DEVICE 3 TR\nDEVICE 3 TP\n" + TAIL, 8, 8, "an earlier device of the job has this number"),
     ("BadLabel", HEAD + "DEVICE 3 MT a\n" + TAIL, 7, 13, "the label isn't 1 to 8 characters of A to Z and 0 to 9"),

@@ -3,6 +3,9 @@ use Rattle.std.specs.Prelude.{◌<◌, ℕ, Bool, true, false, List, [], ◌∷�
 use Rattle.kdf_text.specs.Lines.{is_text}
 use Rattle.kdf_text.specs.Numbers.{number_in}
 use Rattle.kdf_job.specs.Made.{made_text}
+use Rattle.kdf_job.specs.declared.job.TheConstants.{TEXT_LIMIT}
+use Rattle.kdf_limits.specs.declared.store.TheConstants.{LAST_ADDRESS, PROGRAM_WORDS}
+use Rattle.kdf_command.specs.declared.command.TheConstants.{JOB_LIMIT}
 use Rattle.kdf_command.specs.declared.command.Input.{Input}
 use Rattle.kdf_command.specs.declared.command.Input.TheVariants.{Read, Made}
 use Rattle.kdf_command.specs.declared.command.Command.{Command}
@@ -16,9 +19,9 @@ slot_of_word word = number_in 0 3 word
 abbrev pub made_of_word : List ℕ → Option ℕ
 made_of_word word = number_in 0 65535 word
 
--- an address of the largest store as a word: 0 to 8191
+-- an address of the largest store as a word
 abbrev pub address_of_word : List ℕ → Option ℕ
-address_of_word word = number_in 0 8191 word
+address_of_word word = number_in 0 LAST_ADDRESS word
 
 -- the watch at an address of a slot, where there are both
 abbrev pub watch_at : Option ℕ → Option ℕ → Option Command
@@ -60,28 +63,49 @@ command _ = None
 abbrev pub is_command : List (List ℕ) → Bool
 is_command words = is_some (command words)
 
+-- what the text of a command is: a job, a job with a report after it, or a snapshot with what its schedule has more
+pub data TextForm : Type 0 where
+  AJob : TextForm
+  AReport : TextForm
+  ASnapshot : TextForm
+
+abbrev pub form_of : Command → TextForm
+form_of Resume = ASnapshot
+form_of Check = AReport
+form_of _ = AJob
+
 -- a job that is read has at most so many bytes
 abbrev pub job_limit : ℕ
-job_limit = 4194304
+job_limit = JOB_LIMIT
 
 -- and a text that goes on after a job, at most so many
 abbrev pub text_limit : ℕ
-text_limit = 268435456
+text_limit = TEXT_LIMIT
 
 -- how many bytes the text of a command may have
+abbrev pub limit_in : TextForm → ℕ
+limit_in AJob = job_limit
+limit_in _ = text_limit
+
 abbrev pub limit_of : Command → ℕ
-limit_of Resume = text_limit
-limit_of Check = text_limit
-limit_of _ = job_limit
+limit_of c = limit_in (form_of c)
 
 abbrev pub limit_by : Option Command → ℕ
 limit_by None = job_limit
 limit_by (Some c) = limit_of c
 
+-- the number that a command makes its job from, if it makes one
+abbrev pub made_from : Command → Option ℕ
+made_from (Make n) = Some n
+made_from _ = None
+
 -- where a command's text comes from: it is read, or made from a number
+abbrev pub input_from : Option ℕ → ℕ → Input
+input_from None limit = Read limit
+input_from (Some n) limit = Made n
+
 abbrev pub input_of : Command → Input
-input_of (Make n) = Made n
-input_of c = Read (limit_of c)
+input_of c = input_from (made_from c) (limit_of c)
 
 -- a text is read
 abbrev pub is_read : Input → Bool
@@ -116,5 +140,5 @@ HasSlot _ = Unit {0}
 
 -- the address that a command names is one of the largest store
 abbrev pub HasAddress : Command → Type 0
-HasAddress (Watch slot address) = address < 8192
+HasAddress (Watch slot address) = address < PROGRAM_WORDS
 HasAddress _ = Unit {0}

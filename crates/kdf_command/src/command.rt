@@ -7,6 +7,7 @@ mod values;
 pub mod worked;
 
 use kdf_job::TEXT_LIMIT;
+use kdf_limits::LAST_ADDRESS;
 use kdf_text::number_in;
 use std::alloc::{AllocError, Global};
 use values::{Values, any_hyphen};
@@ -45,14 +46,14 @@ pub enum Input {
 /// The most bytes that a command reads, but for `resume` and `check`, which read as many as `TEXT_LIMIT` says.
 pub const JOB_LIMIT: usize = 4_194_304;
 
+/// The line that tells how the program is used.
+pub const USAGE: &str = "USAGE kdf9 run, alone K, asm K, make N, save, resume, check, watch K W";
+
 /// The highest number of a slot.
 const LAST_SLOT: u64 = 3;
 
 /// The highest number of a made job.
 const LAST_MADE: u64 = 65_535;
-
-/// The highest address of a store.
-const LAST_ADDRESS: u64 = 8191;
 
 impl Command {
     /// How many bytes the command's text may have.
@@ -200,5 +201,5 @@ fn place(words: (&str, &str)) -> Option<Command>
 fn address(word: &str) -> Option<u16>
     ensures { result ≡ address_of_word word.now }
 {
-    Some(number_in(0, LAST_ADDRESS, word.as_bytes())? as u16)
+    Some(number_in(0, u64::from(LAST_ADDRESS), word.as_bytes())? as u16)
 }

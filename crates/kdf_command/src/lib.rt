@@ -3,4 +3,6 @@
 
 mod command;
 
-pub use command::{Command, Input, command_of, limit_by, worked as worked_commands};
+pub use command::{
+    Command, Input, JOB_LIMIT, USAGE, command_of, limit_by, worked as worked_commands,
+};

@@ -16,6 +16,7 @@ use Rattle.kdf_director.specs.Fields.Parts.{window_at}
 use Rattle.kdf_theory.specs.Shown.{Shown, state_of}
 use Rattle.kdf_theory.specs.Slots.{slot_of}
 use Rattle.kdf_theory.specs.ByJournal.{flights_of, is_pending_after, own_after}
+use Rattle.kdf_limits.specs.declared.store.TheConstants.{DIRECTOR_WORDS}
 
 -- ---- windows
 
@@ -27,7 +28,7 @@ size_in (s ∷ slots) p = if s.p == p then s.size else size_in slots p
 -- the windows of the slots 0 to 3, one after the other from place 1,024 on
 abbrev pub windows_in : List Slot → List Window
 windows_in slots =
-    windows_from 1024 (size_in slots 0 ∷ size_in slots 1 ∷ size_in slots 2 ∷ size_in slots 3 ∷ [])
+    windows_from DIRECTOR_WORDS (size_in slots 0 ∷ size_in slots 1 ∷ size_in slots 2 ∷ size_in slots 3 ∷ [])
 
 -- the window of slot p, where there is such a slot
 abbrev pub window_in : List Slot → ℕ → Option Window

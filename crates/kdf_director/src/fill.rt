@@ -6,13 +6,11 @@ ghost use Rattle.kdf_director.specs.Fields.Parts.{window_at};
 
 use crate::Loaded;
 use crate::dispatch::window_of;
+use kdf_limits::{STORE_GROUPS, STORE_WORDS};
 use kdf_lockout::Store;
 use kdf_relocate::Window;
 use kdf_word::Word;
 use std::alloc::{AllocError, Global};
-
-/// The groups of the store, of 32 words each.
-const GROUPS: usize = 1_024;
 
 /// A store with the words of each slot from the begin of its window on, and zeros else.
 pub(crate) fn filled_store(
@@ -20,7 +18,7 @@ pub(crate) fn filled_store(
     windows: &[Window; 4],
     slots: &[Loaded],
 ) -> Result<Store, AllocError>
-    requires { All (λ (l : Loaded). (window_at windows.now l.p).base + length l.words.items ≤ 32768) slots.now }
+    requires { All (λ (l : Loaded). (window_at windows.now l.p).base + length l.words.items ≤ STORE_WORDS) slots.now }
     ensures { IfOk result (λ s. s ≡ with_images windows.now zero_cells (map loaded slots.now)) }
 {
     let mut store = zero_store(alloc)?;
@@ -32,15 +30,15 @@ pub(crate) fn filled_store(
 #[tactic(auto, using(crate::proofs::Loading::StoreFilled::zero_count))]
 fn zero_store(alloc: Global) -> Result<Store, AllocError>
     ensures cells { IfOk result (λ s. s ≡ zero_cells) }
-    ensures size { IfOk result (λ s. length s ≡ 1024) }
+    ensures size { IfOk result (λ s. length s ≡ STORE_GROUPS) }
 {
-    Store::new(alloc, GROUPS)
+    Store::new(alloc, STORE_GROUPS)
 }
 
 /// Writes the words of each slot from the begin of its window on.
 fn fill_all(store: &mut Store, windows: &[Window; 4], slots: &[Loaded])
-    requires size { length store.old ≡ 1024 }
-    requires inside { All (λ (l : Loaded). (window_at windows.now l.p).base + length l.words.items ≤ 32768) slots.now }
+    requires size { length store.old ≡ STORE_GROUPS }
+    requires inside { All (λ (l : Loaded). (window_at windows.now l.p).base + length l.words.items ≤ STORE_WORDS) slots.now }
     ensures { store.new ≡ with_images windows.now store.old (map loaded slots.now) }
 {
     for slot in slots.iter() {
@@ -50,10 +48,10 @@ fn fill_all(store: &mut Store, windows: &[Window; 4], slots: &[Loaded])
 
 /// Writes words from a place on.
 fn fill(store: &mut Store, place: usize, words: &[Word])
-    requires size { length store.old ≡ 1024 }
-    requires inside { place + length words.now ≤ 32768 }
+    requires size { length store.old ≡ STORE_GROUPS }
+    requires inside { place + length words.now ≤ STORE_WORDS }
     ensures words { store.new ≡ with_words store.old place words.now }
-    ensures size { length store.new ≡ 1024 }
+    ensures size { length store.new ≡ STORE_GROUPS }
 {
     for i in 0..words.len() {
         put(store, place + i, words[i]);
@@ -62,10 +60,10 @@ fn fill(store: &mut Store, place: usize, words: &[Word])
 
 /// Writes a word, unless its group is out.
 fn put(store: &mut Store, place: usize, word: Word)
-    requires size { length store.old ≡ 1024 }
-    requires inside { place < 32768 }
+    requires size { length store.old ≡ STORE_GROUPS }
+    requires inside { place < STORE_WORDS }
     ensures word { store.new ≡ kept_word store.old place word }
-    ensures size { length store.new ≡ 1024 }
+    ensures size { length store.new ≡ STORE_GROUPS }
 {
     let _written = store.write(place, word);
 }

@@ -22,6 +22,7 @@ use crate::fill::filled_store;
 use crate::{Loaded, Place, Program, Yard};
 use kdf_job::{SlotJob, device_numbered, kind_lent};
 use kdf_journal::Kind;
+use kdf_limits::DIRECTOR_WORDS;
 use kdf_lockout::Store;
 use kdf_place::Image;
 use kdf_processor::Registers;
@@ -116,7 +117,7 @@ fn copy(alloc: Global, device: &(u8, Device)) -> Result<(u8, Device), AllocError
 /// The windows of the slots, which fit together.
 fn windows_of(slots: &[Loaded]) -> [Window; 4]
     requires { have_windows (sizes_of (map loaded slots.now)) ≡ true }
-    ensures value { result ≡ windows_from 1024 (sizes_of (map loaded slots.now)) }
+    ensures value { result ≡ windows_from DIRECTOR_WORDS (sizes_of (map loaded slots.now)) }
     ensures apart { AllPairs IsBefore result }
     ensures inside { All IsInStore result }
 {

@@ -39,6 +39,7 @@ use crate::shown::{
 use crate::{Halt, Loaded, Place, Program, Yard};
 use kdf_job::Job;
 use kdf_journal::{CALL_LIMIT, Entry, Journal};
+use kdf_limits::EVENTS;
 use kdf_lockout::Store;
 use kdf_place::Image;
 use kdf_places::{cancel_all, end_at, move_at, transfer_in};
@@ -65,7 +66,7 @@ pub enum Progress {
 }
 
 /// A schedule has so many events at most.
-pub const EVENT_LIMIT: u32 = 500_000;
+pub const EVENT_LIMIT: u32 = EVENTS;
 
 /// The programs of a job over the store and the devices that they share. Contracts see the slots as they were loaded,
 /// each program's own state, the journal, and how many events more can be entered in it.

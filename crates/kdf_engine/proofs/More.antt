@@ -12,11 +12,11 @@ use Rattle.kdf_check.specs.Report.{IsCheck, IsJudged, head_line, told_lines}
 use Rattle.kdf_check.specs.Verdict.{CanGoOn, IsFirstWrong, IsVerdict, TellJournal}
 use Rattle.kdf_check.specs.declared.verdict.Verdict.{Verdict}
 use Rattle.kdf_check.specs.declared.verdict.Verdict.TheVariants.{Yes, No}
-use Rattle.kdf_top.specs.Answers.{Answers, IsCalledBy, IsCalledWhere, IsDoneBy, IsTrusted, called_by, job_text}
-use Rattle.kdf_top.specs.Due.{IsMachineOf, IsTextFrom, Keeps, job_of}
+use Rattle.kdf_top.specs.Answers.{Answers, IsCalledBy, IsCalledIn, IsDoneBy, IsTrustedIn, called_by, job_text}
+use Rattle.kdf_top.specs.Due.{IsMachineOf, IsTextBy, Keeps, job_of, journal_in, text_from}
 use Rattle.kdf_top.specs.Snapshots.{IsComparedFor}
 use Rattle.kdf_command.specs.declared.command.Command.{Command}
-use Rattle.kdf_command.specs.declared.command.Command.TheVariants.{Run, Save, Resume, Check, Alone, Asm, Make, Watch}
+use Rattle.kdf_command.specs.Commands.{AJob, AReport, ASnapshot, TextForm, form_of}
 use Rattle.kdf_top.specs.declared.status.Status.{Status}
 use Rattle.kdf_top.specs.declared.status.Status.TheVariants as status
 use Rattle.kdf_engine.specs.Service.{exchanged}
@@ -72,42 +72,31 @@ module _ (answers same : ℕ → ℕ → Type 0) (part : (n a : ℕ) → answers
   check_same slots events bytes v is = judged_same slots events (told_lines (lines bytes)) (is_text head_line (line (lines bytes) 1)) v is
 
   -- ---- texts
-  from_same : (c : Command) (bytes : List ℕ) (J : List Entry) (due : List ℕ) → IsTextFrom answers c bytes J due → IsTextFrom same c bytes J due
-  from_same Run bytes J due is = is
-  from_same Save bytes J due is = is
-  from_same Resume bytes J due is = is
-  from_same Check bytes J due is = (is.0, check_same _ _ _ is.0 is.1, is.2)
-  from_same (Alone p) bytes J due is = is
-  from_same (Asm p) bytes J due is = is
-  from_same (Make n) bytes J due is = is
-  from_same (Watch slot address) bytes J due is = is
+  by_same : (made : Option (List ℕ)) (bytes due : List ℕ) → IsTextBy answers made bytes due → IsTextBy same made bytes due
+  by_same (Some made) bytes due is = is
+  by_same None bytes due is = (is.0, check_same _ _ _ is.0 is.1, is.2)
 
   -- ---- what is called for
   compared_same : (bytes : List ℕ) (called : Status) → IsComparedFor answers bytes called → IsComparedFor same bytes called
   compared_same bytes called is = (is.0, journal_same _ _ is.0 is.1, is.2)
 
-  called_same : (c : Command) (bytes : List ℕ) (found called : Status) → IsCalledWhere answers c bytes found called
-      → IsCalledWhere same c bytes found called
-  called_same Resume bytes status.Done called is = compared_same bytes called is
-  called_same Resume bytes status.Usage called is = is
-  called_same Resume bytes (status.Job fault at) called is = is
-  called_same Resume bytes (status.Deck slot fault place) called is = is
-  called_same Resume bytes status.Large called is = is
-  called_same Resume bytes status.ReadFault called is = is
-  called_same Resume bytes status.WriteFault called is = is
-  called_same Resume bytes status.Memory called is = is
-  called_same Resume bytes (status.Snapshot fault at) called is = is
-  called_same Run bytes found called is = is
-  called_same Save bytes found called is = is
-  called_same Check bytes found called is = is
-  called_same (Alone p) bytes found called is = is
-  called_same (Asm p) bytes found called is = is
-  called_same (Make n) bytes found called is = is
-  called_same (Watch slot address) bytes found called is = is
+  called_same : (form : TextForm) (bytes : List ℕ) (found called : Status) → IsCalledIn answers form bytes found called
+      → IsCalledIn same form bytes found called
+  called_same ASnapshot bytes status.Done called is = compared_same bytes called is
+  called_same ASnapshot bytes status.Usage called is = is
+  called_same ASnapshot bytes (status.Job fault at) called is = is
+  called_same ASnapshot bytes (status.Deck slot fault place) called is = is
+  called_same ASnapshot bytes status.Large called is = is
+  called_same ASnapshot bytes status.ReadFault called is = is
+  called_same ASnapshot bytes status.WriteFault called is = is
+  called_same ASnapshot bytes status.Memory called is = is
+  called_same ASnapshot bytes (status.Snapshot fault at) called is = is
+  called_same AJob bytes found called is = is
+  called_same AReport bytes found called is = is
 
   called_by_same : (c : Option Command) (bytes : List ℕ) (called : Status) → IsCalledBy answers c bytes called → IsCalledBy same c bytes called
   called_by_same None bytes called is = is
-  called_by_same (Some c) bytes called is = called_same c (job_text c bytes) (called_by (Some c) bytes) called is
+  called_by_same (Some c) bytes called is = called_same (form_of c) (job_text c bytes) (called_by (Some c) bytes) called is
 
   -- ---- what is done
   machine_same : (j : Job) (m : Shown) → IsMachineOf answers j m → IsMachineOf same j m
@@ -117,15 +106,10 @@ module _ (answers same : ℕ → ℕ → Type 0) (part : (n a : ℕ) → answers
   keeps_same c bytes None is = is
   keeps_same c bytes (Some m) is = (is.0, machine_same (job_of c bytes) m is.1)
 
-  trusted_same : (c : Command) (bytes : List ℕ) → IsTrusted answers c bytes → IsTrusted same c bytes
-  trusted_same Resume bytes is = compared_same bytes status.Done is
-  trusted_same Run bytes is = is
-  trusted_same Save bytes is = is
-  trusted_same Check bytes is = is
-  trusted_same (Alone p) bytes is = is
-  trusted_same (Asm p) bytes is = is
-  trusted_same (Make n) bytes is = is
-  trusted_same (Watch slot address) bytes is = is
+  trusted_same : (form : TextForm) (bytes : List ℕ) → IsTrustedIn answers form bytes → IsTrustedIn same form bytes
+  trusted_same AJob bytes is = is
+  trusted_same AReport bytes is = is
+  trusted_same ASnapshot bytes is = compared_same bytes status.Done is
 
   done_same : (c : Option Command) (bytes : List ℕ) (kept : Option Shown) (before after : Option (List ℕ))
       → IsDoneBy answers c bytes kept before after → IsDoneBy same c bytes kept before after
@@ -135,9 +119,9 @@ module _ (answers same : ℕ → ℕ → Type 0) (part : (n a : ℕ) → answers
     record {
       faultless = is.1.faultless;
       assembles = is.1.assembles;
-      trusted = trusted_same c (job_text c bytes) is.1.trusted;
+      trusted = trusted_same (form_of c) (job_text c bytes) is.1.trusted;
       keeps = keeps_same c (job_text c bytes) kept is.1.keeps;
-      text_is = from_same c (job_text c bytes) _ is.0 is.1.text_is;
+      text_is = by_same (text_from c (job_text c bytes) (journal_in kept)) (job_text c bytes) is.0 is.1.text_is;
     },
     is.2,
   )

@@ -23,6 +23,7 @@ use crate::resume::resume_facts;
 use crate::run::{Loaded, run_facts};
 use crate::snapshot::snapshot_facts;
 use crate::watch::watch_facts;
+use kdf_command::JOB_LIMIT;
 use kdf_job::{Job, JobError, JobFault, TEXT_LIMIT, generated, read_job, read_job_front};
 use kdf_json::deck_line;
 use kdf_listing::{absent_text, lay_out, listing_text};
@@ -30,9 +31,6 @@ use kdf_place::Image;
 use kdf_service::Service;
 use kdf_top::{Command, DecksError, Status, assemble_decks, command_of};
 use std::alloc::{AllocError, Global};
-
-/// A job has so many bytes at most.
-const JOB_LIMIT: usize = 4_194_304;
 
 /// What facts are wanted of a job.
 #[derive(Clone, Copy)]

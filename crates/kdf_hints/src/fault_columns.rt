@@ -2,6 +2,7 @@
 
 ghost use Rattle.std.specs.Prelude.{◌<◌, length};
 
+use crate::job_lines::{longest, range_of_first};
 use kdf_code::to_code;
 use kdf_job::JobFault;
 use kdf_json::{after, is};
@@ -62,28 +63,11 @@ fn column_of_number(line: &[u8]) -> u32 {
     let Some((name, rest)) = cut_word(line) else {
         return 1;
     };
-    let (low, high) = range_of(name);
+    let (low, high) = range_of_first(name).unwrap_or((0, 15));
     if number_in(low, high, first_field(rest)).is_some() {
         column_of_field(line, 2)
     } else {
         column_of_field(line, 1)
-    }
-}
-
-/// The least and the greatest value of the first number of a line.
-fn range_of(name: &[u8]) -> (u64, u64) {
-    if is(name, b"STORE") {
-        (32, 8192)
-    } else if is(name, b"SHOW") {
-        (0, 8191)
-    } else if is(name, b"ORDERS") {
-        (1, 20_000_000)
-    } else if is(name, b"CLOCK") {
-        (0, 140_737_488_355_327)
-    } else if is(name, b"SLOT") || is(name, b"SWAP") {
-        (0, 3)
-    } else {
-        (0, 15)
     }
 }
 
@@ -94,7 +78,7 @@ fn column_of_medium(line: &[u8], kind: &[u8]) -> u32 {
     }
     let mut column = 1u32;
     for (i, byte) in line.iter().enumerate() {
-        if i > 0 && (to_code(*byte).is_none() || i > longest(kind)) {
+        if i > 0 && (to_code(*byte).is_none() || i > longest(kind) as usize) {
             return column;
         }
         column = column.saturating_add(1);
@@ -105,17 +89,6 @@ fn column_of_medium(line: &[u8], kind: &[u8]) -> u32 {
 /// Whether a kind of device begins with a medium.
 fn has_medium(kind: &[u8]) -> bool {
     is(kind, b"TR") || is(kind, b"CR") || is(kind, b"MT")
-}
-
-/// The most characters of a line of a medium.
-fn longest(kind: &[u8]) -> usize {
-    if is(kind, b"CR") {
-        80
-    } else if is(kind, b"MT") {
-        32_768
-    } else {
-        usize::MAX
-    }
 }
 
 /// The kind of the device whose medium a line belongs to; none directly after the line `POOL`.

@@ -6,12 +6,10 @@ use crate::hint_form::write_form_hint;
 use crate::hint_names::write_names_hint;
 use crate::hint_number::write_number_hint;
 use kdf_json::{Spot, before, from, length_of, spot_after};
+use kdf_limits::PROGRAM_WORDS;
 use kdf_usercode::DeckFault;
 use std::alloc::{AllocError, Global};
 use std::fmt::Write;
-
-/// The largest store.
-const MOST_STORE: u16 = 8192;
 
 /// A fault in a deck: the deck's text, the spot of its first byte in the job, the words of its store, and the place of the fault, an offset in the deck.
 #[derive(Clone, Copy)]
@@ -68,9 +66,9 @@ fn write_semicolon_hint(out: &mut String, faulty: Faulty<'_>) -> Result<(), Allo
 fn write_size_hint(out: &mut String, store: u16, words: Option<u32>) -> Result<(), AllocError> {
     match words {
         Some(words) => write_words_hint(out, words),
-        None if store < MOST_STORE => {
+        None if store < PROGRAM_WORDS => {
             write_begin(out, "image_too_large")?;
-            write_value(out, "most", u64::from(MOST_STORE))?;
+            write_value(out, "most", u64::from(PROGRAM_WORDS))?;
             write_close(out)
         }
         None => write_none(out),

@@ -1,6 +1,7 @@
 //! What may have led to a line of a medium that is wrong.
 
 use crate::hint::{write_begin, write_close, write_none, write_plain, write_value, write_words};
+use crate::job_lines::longest;
 use kdf_code::to_code;
 use kdf_json::{before, count_of, from, is};
 use std::alloc::AllocError;
@@ -71,17 +72,6 @@ fn write_in_characters(
         write_close(out)
     } else {
         write_none(out)
-    }
-}
-
-/// The most characters of a line of a kind of medium.
-fn longest(kind: &[u8]) -> u32 {
-    if is(kind, b"CR") {
-        80
-    } else if is(kind, b"MT") {
-        32_768
-    } else {
-        u32::MAX
     }
 }
 

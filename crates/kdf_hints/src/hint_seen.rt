@@ -5,6 +5,7 @@ ghost use Rattle.std.specs.Prelude.{◌<◌, length};
 use crate::fault_columns::kind_after;
 use crate::job_lines::field;
 use kdf_json::{after, is};
+use kdf_limits::PROGRAM_WORDS;
 use kdf_text::{Lines, number_in};
 
 /// What of a job has been read: whether a deck, the pool or the schedule is open, the last line, the kind of the last device, and the words of the last store.
@@ -61,7 +62,7 @@ impl<'a> Seen<'a> {
     /// After a line that is none of a deck.
     fn after_line(self, line: &'a [u8]) -> Seen<'a> {
         let store = match after(line, b"STORE ") {
-            Some(_) => number_in(0, 8192, field(line, 1)).unwrap_or(self.store),
+            Some(_) => number_in(0, u64::from(PROGRAM_WORDS), field(line, 1)).unwrap_or(self.store),
             None => self.store,
         };
         Seen {

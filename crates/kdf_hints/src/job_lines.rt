@@ -1,7 +1,10 @@
 //! The lines of a job: their fields, their forms, and the ranges of their numbers.
 
 use kdf_json::is;
-use kdf_text::cut_word;
+use kdf_limits::{GROUP_WORDS, LAST_ADDRESS, PROGRAM_WORDS, TAPE_BLOCK};
+use kdf_media::CARD_LENGTH;
+use kdf_schedule::MOST_ORDERS;
+use kdf_text::{GREATEST, cut_word};
 
 /// The field of a number of a line, counted from 0, or none.
 pub fn field(line: &[u8], index: u32) -> &[u8] {
@@ -107,15 +110,16 @@ fn fields_before(line: &[u8], column: u32) -> u32 {
     fields
 }
 
-fn range_of_first(word: &[u8]) -> Option<(u64, u64)> {
+/// The range of the first number of a line that begins with a word.
+pub fn range_of_first(word: &[u8]) -> Option<(u64, u64)> {
     if is(word, b"STORE") {
-        Some((32, 8192))
+        Some((u64::from(GROUP_WORDS), u64::from(PROGRAM_WORDS)))
     } else if is(word, b"SHOW") {
-        Some((0, 8191))
+        Some((0, u64::from(LAST_ADDRESS)))
     } else if is(word, b"ORDERS") {
-        Some((1, 20_000_000))
+        Some((1, u64::from(MOST_ORDERS)))
     } else if is(word, b"CLOCK") {
-        Some((0, 140_737_488_355_327))
+        Some((0, GREATEST))
     } else if is(word, b"SLOT") || is(word, b"SWAP") {
         Some((0, 3))
     } else if is(word, b"DEVICE") || is(word, b"MOVE") || is(word, b"END") {
@@ -127,12 +131,23 @@ fn range_of_first(word: &[u8]) -> Option<(u64, u64)> {
 
 fn range_of_second(word: &[u8]) -> Option<(u64, u64)> {
     if is(word, b"SHOW") {
-        Some((0, 8191))
+        Some((0, u64::from(LAST_ADDRESS)))
     } else if is(word, b"MOVE") {
         Some((1, 4096))
     } else if is(word, b"SWAP") {
         Some((0, 3))
     } else {
         None
+    }
+}
+
+/// The most characters of a line of a kind of medium.
+pub fn longest(kind: &[u8]) -> u32 {
+    if is(kind, b"CR") {
+        CARD_LENGTH as u32
+    } else if is(kind, b"MT") {
+        TAPE_BLOCK as u32
+    } else {
+        u32::MAX
     }
 }

@@ -12,6 +12,7 @@ use Rattle.kdf_schedule.specs.Calls.{order_count, orders_in}
 use Rattle.kdf_schedule.specs.Events.{IsInRange}
 use Rattle.kdf_job.specs.Draft.{clock_behind, clock_of, count_fault, event_fault}
 use Rattle.kdf_job.specs.WellFormed.{IsRising, IsSchedule}
+use Rattle.kdf_job.specs.Limits.{most_events, most_orders}
 
 pub order_count_push : (es : List Event) (e : Event) → order_count (es ++ e ∷ []) ≡ order_count es + orders_in e
 order_count_push [] e = omega arith
@@ -47,17 +48,17 @@ goes_on es (Move d n) h = tt {0}
 goes_on es (End d) h = tt {0}
 goes_on es (Swap p q) h = tt {0}
 
-count_few : (es : List Event) → count_fault es ≡ None → length es < 500000
+count_few : (es : List Event) → count_fault es ≡ None → length es < most_events
 count_few es h = grind (arith, nat_tests)
 
-few_events : (es : List Event) (e : Event) → event_fault e es ≡ None → length es < 500000
+few_events : (es : List Event) (e : Event) → event_fault e es ≡ None → length es < most_events
 few_events es (Clock u) h = grind (arith, nat_tests)
 few_events es (Orders n) h = grind (arith, nat_tests)
 few_events es (Move d n) h = count_few es h
 few_events es (End d) h = count_few es h
 few_events es (Swap p q) h = count_few es h
 
-pub few_orders : (es : List Event) (e : Event) → event_fault e es ≡ None → order_count es ≤ 20000000 → order_count es + orders_in e ≤ 20000000
+pub few_orders : (es : List Event) (e : Event) → event_fault e es ≡ None → order_count es ≤ most_orders → order_count es + orders_in e ≤ most_orders
 few_orders es (Clock u) h few = omega arith
 few_orders es (Orders n) h few = grind (arith, nat_tests)
 few_orders es (Move d n) h few = omega arith
@@ -77,8 +78,8 @@ order_count_append [] ys = omega arith
 order_count_append (x ∷ xs) ys = let more = order_count_append xs ys in omega arith
 
 -- the events of a schedule, one by one
-pub orders_left : (all es : List Event) (i : ℕ) (d : Event) → es ++ drop i all ≡ all → i < length all → order_count all ≤ 20000000
-    → order_count es + orders_in (get_or all i d) ≤ 20000000
+pub orders_left : (all es : List Event) (i : ℕ) (d : Event) → es ++ drop i all ≡ all → i < length all → order_count all ≤ most_orders
+    → order_count es + orders_in (get_or all i d) ≤ most_orders
 orders_left all es i d is lt few =
     let e = ap order_count is in
     let n = order_count_append es (drop i all) in

@@ -22,6 +22,7 @@ use Rattle.kdf_job.specs.Reading.{behind_line, draft_of, fault_from, job, job_fa
 use Rattle.kdf_job.specs.SlotLines.{begins, ends, lines_from, place_behind, pool_lines, rest_of_slot, slot_lines}
 use Rattle.kdf_job.proofs.StoreLines.{IsBehindSlot, IsPoolTold, pool_tells, stores_only}
 use Rattle.kdf_job.proofs.PoolReadings.{lent_of_lines, pool_told}
+use Rattle.kdf_job.specs.Limits.{group, most_words}
 
 -- ---- slots that lines tell, of which only the places and the slot that is read count
 
@@ -178,7 +179,7 @@ in_pool s (line ∷ ls) = step (told_at BehindPool line) (pool_tells line) (in_p
 -- a slot that was read stands first of what follows
 read_stays : (p q : ℕ) (s : SlotDraft) (ls : List (List ℕ)) → (s.p == p) ≡ true → find (is_slot p) (slots_from (BehindSlot q) (Some s) ls) ≡ Some (slot_of s)
 read_stays p q s [] is = rw is refl
-read_stays p q s (line ∷ ls) is = step (number_line (codes "STORE") 32 8192 (words line)) (read_stays p q s ls is)
+read_stays p q s (line ∷ ls) is = step (number_line (codes "STORE") group most_words (words line)) (read_stays p q s ls is)
   where
     step : (x : Option (Result ℕ JobFault)) → find (is_slot p) (slots_from (BehindSlot q) (Some s) ls) ≡ Some (slot_of s)
         → find (is_slot p) (told_line (BehindSlot q) (Some s) (first_told (told AStore x ∷ [])) (λ at t. slots_from at t ls)) ≡ Some (slot_of s)
@@ -208,7 +209,7 @@ inside p place s (line ∷ ls) away is = step (told_at place line) refl (λ (at 
 begun : (p : ℕ) (slot : Option SlotDraft) (ls : List (List ℕ)) → IsOther p slot
     → find (is_slot p) (slots_from (BehindSlot p) slot ls) ≡ option_map slot_of (slot_within (BehindSlot p) None ls)
 begun p slot [] other = not_found_last p slot other
-begun p slot (line ∷ ls) other = step (number_line (codes "STORE") 32 8192 (words line)) (begun p slot ls other)
+begun p slot (line ∷ ls) other = step (number_line (codes "STORE") group most_words (words line)) (begun p slot ls other)
   where
     step : (x : Option (Result ℕ JobFault)) → find (is_slot p) (slots_from (BehindSlot p) slot ls) ≡ option_map slot_of (slot_within (BehindSlot p) None ls)
         → find (is_slot p) (told_line (BehindSlot p) slot (first_told (told AStore x ∷ [])) (λ at t. slots_from at t ls))

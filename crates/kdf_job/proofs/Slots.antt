@@ -12,6 +12,7 @@ use Rattle.kdf_job.specs.Job.{JobDevice, SlotJob}
 use Rattle.kdf_job.specs.Draft.{numbers_of, words_in}
 use Rattle.kdf_job.specs.Kept.{AreTold}
 use Rattle.kdf_job.specs.WellFormed.{AreRising, IsSlot}
+use Rattle.kdf_job.specs.Limits.{most_words_together}
 
 abbrev pub ps : List SlotJob → List ℕ
 ps slots = map (λ (s : SlotJob). s.p) slots
@@ -74,7 +75,7 @@ slots_first t slot none = record {
 }
 
 pub slots_more : (front : List SlotJob) (s t : SlotJob) → AreTold (front ++ s ∷ []) → s.p < t.p → IsSlot t → t.devices ≡ []
-    → words_in (front ++ s ∷ []) + t.size ≤ 31744
+    → words_in (front ++ s ∷ []) + t.size ≤ most_words_together
     → AreTold ((front ++ s ∷ []) ++ t ∷ [])
 slots_more front s t was p slot none fits =
     let all = front ++ s ∷ [] in

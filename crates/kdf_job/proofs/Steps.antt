@@ -13,6 +13,7 @@ use Rattle.kdf_job.specs.Draft.{SlotDraft, Draft, all_devices, new_slot, numbers
 use Rattle.kdf_job.specs.Kept.{AreTold, IsBegun, IsKept, IsPlaced, IsUntold}
 use Rattle.kdf_job.specs.WellFormed.{IsLent, IsSchedule, IsSlot}
 use Rattle.kdf_job.proofs.Slots.{apart_more, ds, numbers_last, numbers_more, numbers_same, slots_changed, slots_first, slots_more, words_last}
+use Rattle.kdf_job.specs.Limits.{most_words, most_words_together}
 
 -- while the pool is empty
 pub told_alone : (d : Draft) → d.pool ≡ [] → numbers_told d ≡ numbers_of (slots_told d)
@@ -85,7 +86,7 @@ device_told words n numbers d e s t was none still slots old new events p size m
     }
 
 -- a slot begins
-new_is_slot : (p n : ℕ) → p ≤ 3 → 32 ≤ n → n ≤ 8192 → n % 32 ≡ 0 → IsSlot (slot_of (new_slot p n))
+new_is_slot : (p n : ℕ) → p ≤ 3 → 32 ≤ n → n ≤ most_words → n % 32 ≡ 0 → IsSlot (slot_of (new_slot p n))
 new_is_slot p n few least most groups = record {
   number = omega arith;
   least = least;
@@ -98,8 +99,8 @@ new_is_slot p n few least most groups = record {
 }
 
 begun_slots : (d : Draft) (slot : Option SlotDraft) (p n : ℕ) → d.slot ≡ slot → AreTold (slots_told d) → IsBegun d.slots d.slot → slot_fault p d.slot ≡ None
-    → p ≤ 3 → 32 ≤ n → n ≤ 8192
-    → n % 32 ≡ 0 → words_in (slots_told d) + n ≤ 31744 → AreTold (slots_told d ++ slot_of (new_slot p n) ∷ [])
+    → p ≤ 3 → 32 ≤ n → n ≤ most_words
+    → n % 32 ≡ 0 → words_in (slots_told d) + n ≤ most_words_together → AreTold (slots_told d ++ slot_of (new_slot p n) ∷ [])
 begun_slots d None p n is was begun above few least most groups fits =
     let none : d.slots ≡ [] = rw is at begun in
     rw (is, none) (slots_first (slot_of (new_slot p n)) (new_is_slot p n few least most groups) refl)
@@ -111,10 +112,10 @@ begun_slots d (Some s) p n is was begun above few least most groups fits =
 
 pub store_told : (words p n : ℕ) (numbers : List ℕ) (d e : Draft) → IsKept words numbers d → d.pool ≡ [] → e.pool ≡ [] → e.slots ≡ slots_told d
     → e.slot ≡ Some (new_slot p n) → e.events ≡ d.events → slot_fault p d.slot ≡ None
-    → p ≤ 3 → 32 ≤ n → n ≤ 8192 → n % 32 ≡ 0 → words + n ≤ 31744 → IsPlaced e.place e.slot → IsKept (words + n) numbers e
+    → p ≤ 3 → 32 ≤ n → n ≤ most_words → n % 32 ≡ 0 → words + n ≤ most_words_together → IsPlaced e.place e.slot → IsKept (words + n) numbers e
 store_told words p n numbers d e was none still slots new events above few least most groups fits placed =
     let after : slots_told e ≡ slots_told d ++ slot_of (new_slot p n) ∷ [] = rw (slots, new) refl in
-    let room : words_in (slots_told d) + n ≤ 31744 = let w = was.sum in omega arith in
+    let room : words_in (slots_told d) + n ≤ most_words_together = let w = was.sum in omega arith in
     let told : AreTold (slots_told e) = subst AreTold (sym after) (begun_slots d d.slot p n refl was.slots was.begun above few least most groups room) in
     record {
       sum = ap (λ (m : ℕ). m + n) was.sum ∙ sym (words_last (slots_told d) (slot_of (new_slot p n))) ∙ ap words_in (sym after);

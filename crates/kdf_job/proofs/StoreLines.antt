@@ -18,6 +18,7 @@ use Rattle.kdf_job.specs.Forms.{Form, AHeader, ASlot, AStore, ADeck, ADeckLine, 
 use Rattle.kdf_job.specs.Forms.{AnEvent, AnEndJob, Told, told, first_told, addresses, alone, described, device_named, device_or_end, device_words, device_line}
 use Rattle.kdf_job.specs.Forms.{kind_named, medium_line, no_medium, number_line, numbered, of_event, or_bad, pooled, service_or_device, show_line, slot_ends}
 use Rattle.kdf_job.specs.Forms.{slot_line, told_at}
+use Rattle.kdf_job.specs.Limits.{group, most_words}
 
 abbrev pub IsBehindSlot : Place → Type 0
 IsBehindSlot (BehindSlot p) = Unit {0}
@@ -190,7 +191,7 @@ stores_only BehindEnd line n e = subst TellsNone e (tells_none BehindEnd line (�
 
 pub pools_only : (place : Place) (line : List ℕ) (n : ℕ) (kind : Kind) (label : List ℕ) → told_at place line ≡ Ok (APoolDevice n kind label) → IsInPool place
 pools_only BehindPool line n kind label e = tt {0}
-pools_only (BehindSlot p) line n kind label e = subst IsStoreTold e (store_told (number_line (codes "STORE") 32 8192 (words line)))
+pools_only (BehindSlot p) line n kind label e = subst IsStoreTold e (store_told (number_line (codes "STORE") group most_words (words line)))
 pools_only First line n kind label e = subst TellsNone e (tells_none First line (λ no. no) (λ no. no) (λ no. no))
 pools_only BehindHeader line n kind label e = subst TellsNone e (tells_none BehindHeader line (λ no. no) (λ no. no) (λ no. no))
 pools_only BehindStore line n kind label e = subst TellsNone e (tells_none BehindStore line (λ no. no) (λ no. no) (λ no. no))
@@ -204,7 +205,7 @@ pools_only BehindEnd line n kind label e = subst TellsNone e (tells_none BehindE
 
 pub ends_only : (place : Place) (line : List ℕ) → told_at place line ≡ Ok AnEndJob → IsScheduled place
 ends_only InSchedule line e = tt {0}
-ends_only (BehindSlot p) line e = subst IsStoreTold e (store_told (number_line (codes "STORE") 32 8192 (words line)))
+ends_only (BehindSlot p) line e = subst IsStoreTold e (store_told (number_line (codes "STORE") group most_words (words line)))
 ends_only BehindPool line e = subst IsPoolTold e (pool_tells line)
 ends_only First line e = subst TellsNone e (tells_none First line (λ no. no) (λ no. no) (λ no. no))
 ends_only BehindHeader line e = subst TellsNone e (tells_none BehindHeader line (λ no. no) (λ no. no) (λ no. no))

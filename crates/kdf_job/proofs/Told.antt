@@ -34,6 +34,7 @@ use Rattle.kdf_job.specs.Taking.{IsSound, Taken, Takes}
 use Rattle.kdf_job.specs.WellFormed.{IsShow}
 use Rattle.kdf_job.proofs.Slots.{ds}
 use Rattle.kdf_job.proofs.Steps.{current_slot, device_told, slot_told, store_told, told_alone}
+use Rattle.kdf_job.specs.Limits.{most_words, most_words_together}
 
 -- a form without a fault
 pub taken : (form : Form) (room : ℕ) (old new : ReadDraft) → fault_of form (shown_draft old) ≡ None → shown_draft new ≡ with_line form (shown_draft old)
@@ -300,10 +301,10 @@ medium_takes marked text old new (Err (Fault fault)) sound none there h words nu
 medium_takes marked text old new (Err Memory) sound none there h words numbers = tt {0}
 
 -- ---- `STORE n`
-store_sound : (n words : ℕ) (slots : List SlotJob) → words ≡ words_in slots → store_fault n slots ≡ None → (n % 32 ≡ 0) × (words + n ≤ 31744)
+store_sound : (n words : ℕ) (slots : List SlotJob) → words ≡ words_in slots → store_fault n slots ≡ None → (n % 32 ≡ 0) × (words + n ≤ most_words_together)
 store_sound n words slots sum h = grind (arith, nat_tests)
 
-store_kept : (words : ℕ) (numbers : List ℕ) (d : Draft) (p n : ℕ) → IsKept words numbers d → d.place ≡ BehindSlot p → 32 ≤ n → n ≤ 8192
+store_kept : (words : ℕ) (numbers : List ℕ) (d : Draft) (p n : ℕ) → IsKept words numbers d → d.place ≡ BehindSlot p → 32 ≤ n → n ≤ most_words
     → store_fault n (slots_told d) ≡ None
     → IsKept (words + n) numbers (with_line (AStore n) d)
 store_kept words numbers d p n was place least most faultless =
@@ -313,8 +314,9 @@ store_kept words numbers d p n was place least most faultless =
     store_told words p n numbers d (with_line (AStore n) d) was none none refl (ap (λ (x : Place). Some (new_slot (number_at x) n)) place) refl placed.1
     placed.0 least most fits.0 fits.1 refl
 
-pub store_takes : (p n : ℕ) (old new : ReadDraft) → IsSound old → old.place ≡ BehindSlot p → 32 ≤ n → n ≤ 8192 → fault_of (AStore n) (shown_draft old) ≡ None
-    → shown_draft new ≡ with_line (AStore n) (shown_draft old) → new.words ≡ old.words + n → new.numbers.items ≡ old.numbers.items
+pub store_takes : (p n : ℕ) (old new : ReadDraft) → IsSound old → old.place ≡ BehindSlot p → 32 ≤ n → n ≤ most_words
+    → fault_of (AStore n) (shown_draft old) ≡ None → shown_draft new ≡ with_line (AStore n) (shown_draft old)
+    → new.words ≡ old.words + n → new.numbers.items ≡ old.numbers.items
     → Taken (Ok (AStore n)) 1 old new
 store_takes p n old new sound place least most faultless shown words numbers =
     taken (AStore n) 1 old new faultless shown

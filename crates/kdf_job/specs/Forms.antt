@@ -14,6 +14,8 @@ use Rattle.kdf_job.specs.declared.place.Place.TheVariants.{First, BehindHeader, 
 use Rattle.kdf_job.specs.declared.place.Place.TheVariants.{BehindShow, BehindPool, InSchedule, BehindEnd}
 use Rattle.kdf_job.specs.declared.fault.JobFault.{JobFault}
 use Rattle.kdf_job.specs.declared.fault.JobFault.TheVariants.{Header, BadLine, BadNumber, BadMedium}
+use Rattle.kdf_limits.specs.declared.store.TheConstants.{LAST_ADDRESS}
+use Rattle.kdf_job.specs.Limits.{group, most_words}
 
 -- what a line tells
 pub data Form : Type 0 where
@@ -85,12 +87,12 @@ slot_line line = told ASlot (number_line (codes "SLOT") 0 3 (words line))
 
 -- `STORE n`
 abbrev pub store_line : List ℕ → Told
-store_line line = told AStore (number_line (codes "STORE") 32 8192 (words line))
+store_line line = told AStore (number_line (codes "STORE") group most_words (words line))
 
 -- `SHOW a b`
 abbrev pub two_addresses : List (List ℕ) → Option (Result (ℕ × ℕ) JobFault)
 two_addresses (a ∷ b ∷ []) =
-    Some (or_bad (option_zip (number_in 0 8191 a) (number_in 0 8191 b)))
+    Some (or_bad (option_zip (number_in 0 LAST_ADDRESS a) (number_in 0 LAST_ADDRESS b)))
 two_addresses _ = None
 
 abbrev pub addresses : List (List ℕ) → Option (Result (ℕ × ℕ) JobFault)

@@ -18,15 +18,10 @@ use crate::schedule::Schedule;
 use crate::slot_draft::SlotDraft;
 use crate::{Job, JobFault, LineError, Place, SlotJob};
 use kdf_journal::Kind;
+use kdf_limits::{GROUP_WORDS, PROGRAM_WORDS, PROGRAMS_WORDS};
 use kdf_schedule::Event;
 use kdf_word::Word;
 use std::alloc::{AllocError, Global};
-
-/// The words of a group.
-const GROUP: u16 = 32;
-
-/// The most words of all stores together.
-const MOST_WORDS: u32 = 31_744;
 
 /// What the lines so far tell of a job, and where the next line stands.
 #[derive(Drop)]
@@ -76,12 +71,12 @@ impl Draft {
     /// What is wrong with the size of a store.
     pub fn store_fault(&self, size: u16) -> Option<JobFault>
         requires sound { IsSound self.now }
-        requires most { size ≤ 8192 }
+        requires most { size ≤ PROGRAM_WORDS }
         ensures { result ≡ store_fault size (slots_told (shown_draft self.now)) }
     {
-        if size % GROUP != 0 {
+        if size % GROUP_WORDS != 0 {
             Some(JobFault::SizeNotGroups)
-        } else if self.words + u32::from(size) > MOST_WORDS {
+        } else if self.words + u32::from(size) > PROGRAMS_WORDS {
             Some(JobFault::StoreFull)
         } else {
             None
@@ -91,7 +86,7 @@ impl Draft {
     /// Begins a slot.
     pub fn add_slot(&mut self, alloc: Global, p: u8, size: u16) -> Result<(), AllocError>
         requires place { self.old.place ≡ BehindSlot p }
-        requires fits { self.old.words + size ≤ 31744 }
+        requires fits { self.old.words + size ≤ PROGRAMS_WORDS }
         ensures shown { OnOk result (shown_draft self.new
             ≡ with_line (AStore size) (shown_draft self.old)) }
         ensures words { OnOk result (self.new.words ≡ self.old.words + size) }

@@ -2,7 +2,7 @@
 //! function that does nothing.
 #![tactic(auto, unfolding(kdf_text::specs::Lines::lines, kdf_text::specs::Lines::words, kdf_text::specs::Numbers::value, kdf_text::specs::Text::text, kdf_schedule::specs::Events::event, kdf_code::specs::Code::code_of, kdf_word::specs::Characters::first_word, kdf_word::specs::Characters::words_of, crate::specs::Media::codes_in, crate::specs::Made::after_steps, crate::specs::Made::letters_from, crate::specs::Reading::read_line, crate::specs::Reading::job_fault, crate::specs::Reading::job, crate::specs::Front::front_lines, crate::specs::Front::front_length, crate::specs::More::more_fault, crate::specs::More::more_events, crate::specs::SlotLines::slot_lines, crate::specs::SlotLines::pool_lines))]
 
-ghost use Rattle.std.specs.Prelude.{◌≡◌, ◌*◌, ◌^◌, [], ◌∷◌, ◌++◌, true, false, Some, None, Ok, Err, codes, replicate};
+ghost use Rattle.std.specs.Prelude.{◌≡◌, ◌*◌, ◌-◌, ◌^◌, [], ◌∷◌, ◌++◌, true, false, Some, None, Ok, Err, codes, replicate};
 ghost use Rattle.kdf_text.specs.Text.{text};
 ghost use Rattle.kdf_journal.specs.declared.kind.Kind.TheVariants as kind;
 ghost use Rattle.kdf_schedule.specs.declared.event.Event.TheVariants as event;
@@ -10,6 +10,7 @@ ghost use Rattle.kdf_job.specs.declared.fault.JobFault.TheVariants as fault;
 ghost use Rattle.kdf_job.specs.declared.place.Place.TheVariants as place;
 ghost use Rattle.kdf_job.specs.Draft.{event_fault, lent_fault, new_slot, show_fault, slot_fault, slot_of, store_fault};
 ghost use Rattle.kdf_job.specs.Forms.{ADeckLine, ADevice, AMedium, APool, APoolDevice, ASchedule, AService, AShow, ASlot, AStore, AnEndDeck, AnEndJob, AnEvent, told_at};
+ghost use Rattle.kdf_limits.specs.declared.store.TheConstants.{PROGRAMS_WORDS};
 ghost use Rattle.kdf_job.specs.Front.{front_fault, front_length};
 ghost use Rattle.kdf_job.specs.Made.{letter, reader_line, step};
 ghost use Rattle.kdf_job.specs.Media.{filled, fits, is_label, word_of_text};
@@ -111,8 +112,8 @@ pub fn faults()
     ensures slot_rises { slot_fault 1 (Some (new_slot 0 32)) ≡ None }
     ensures slot_again { slot_fault 1 (Some (new_slot 1 32)) ≡ Some fault.SlotOrder }
     ensures no_groups { store_fault 33 [] ≡ Some fault.SizeNotGroups }
-    ensures store_fits { store_fault 8192 (slot_of (new_slot 0 23552) ∷ []) ≡ None }
-    ensures store_full { store_fault 8192 (slot_of (new_slot 0 23584) ∷ []) ≡ Some fault.StoreFull }
+    ensures store_fits { store_fault 8192 (slot_of (new_slot 0 (PROGRAMS_WORDS - 8192)) ∷ []) ≡ None }
+    ensures store_full { store_fault 8192 (slot_of (new_slot 0 (PROGRAMS_WORDS - 8160)) ∷ []) ≡ Some fault.StoreFull }
     ensures lent_punch { lent_fault kind.Tp [] ≡ None }
     ensures lent_printer { lent_fault kind.Lp [] ≡ None }
     ensures lent_reader { lent_fault kind.Tr [] ≡ Some fault.PoolKind }

@@ -19,7 +19,7 @@ pub enum JobFault {
     SlotOrder,
     /// The size of a store isn't a multiple of 32.
     SizeNotGroups,
-    /// The stores have more than 31,744 words together.
+    /// The stores have more words together than all programs may have.
     StoreFull,
     /// A device of this number stood before.
     DeviceTwice,

@@ -10,18 +10,11 @@ ghost use Rattle.kdf_job.specs.Shows.{told_device, told_line};
 
 use crate::JobFault;
 use kdf_journal::Kind;
+use kdf_limits::{GROUP_WORDS, LAST_ADDRESS, PROGRAM_WORDS};
 use kdf_text::{GREATEST, cut_word, number_in};
 
 /// The highest number of a slot.
 const LAST_SLOT: u64 = 3;
-
-/// The words of the least and of the largest store.
-const LEAST_STORE: u64 = 32;
-
-const MOST_STORE: u64 = 8192;
-
-/// The highest address.
-const LAST_ADDRESS: u64 = 8191;
 
 /// The highest number of a device.
 const LAST_DEVICE: u64 = 15;
@@ -80,10 +73,15 @@ pub fn slot_number(line: &[u8]) -> Option<Result<u8, JobFault>>
 
 /// The words of `STORE n`.
 pub fn store_size(line: &[u8]) -> Option<Result<u16, JobFault>>
-    ensures value { result ≡ number_line (codes "STORE") 32 8192 (words line.now) }
-    ensures within { IfSome result (λ r. IfOk r (λ n. (32 ≤ n) × (n ≤ 8192))) }
+    ensures value { result ≡ number_line (codes "STORE") GROUP_WORDS PROGRAM_WORDS (words line.now) }
+    ensures within { IfSome result (λ r. IfOk r (λ n. (GROUP_WORDS ≤ n) × (n ≤ PROGRAM_WORDS))) }
 {
-    match number_line(b"STORE", LEAST_STORE, MOST_STORE, line)? {
+    match number_line(
+        b"STORE",
+        u64::from(GROUP_WORDS),
+        u64::from(PROGRAM_WORDS),
+        line,
+    )? {
         Ok(n) => Some(Ok(n as u16)),
         Err(fault) => Some(Err(fault)),
     }
@@ -114,10 +112,10 @@ fn two_addresses(text: &[u8]) -> Option<Result<(u16, u16), JobFault>>
 
 /// The two addresses that words spell.
 fn range(first: &[u8], last: &[u8]) -> Option<(u16, u16)>
-    ensures { result ≡ option_zip (number_in 0 8191 first.now) (number_in 0 8191 last.now) }
+    ensures { result ≡ option_zip (number_in 0 LAST_ADDRESS first.now) (number_in 0 LAST_ADDRESS last.now) }
 {
-    let first = number_in(0, LAST_ADDRESS, first)?;
-    let last = number_in(0, LAST_ADDRESS, last)?;
+    let first = number_in(0, u64::from(LAST_ADDRESS), first)?;
+    let last = number_in(0, u64::from(LAST_ADDRESS), last)?;
     Some((first as u16, last as u16))
 }
 

@@ -7,12 +7,10 @@ ghost use Rattle.kdf_media.specs.Media.{card_of};
 
 use crate::media::filled;
 use crate::{JobFault, LineError};
+use kdf_limits::TAPE_BLOCK;
 use kdf_media::{CARD_LENGTH, Stack};
 use kdf_tape::TapeBlock;
 use std::alloc::Global;
-
-/// The most characters of a block.
-const LONGEST_BLOCK: usize = 32_768;
 
 /// The characters of a paper tape.
 #[derive(Drop)]
@@ -64,11 +62,11 @@ impl CardStack {
         }
     }
 
-    /// Adds a card of these characters, at most 80, which isn't marked.
+    /// Adds a card of these characters, as many as it has at most, which isn't marked.
     pub fn add(&mut self, marked: bool, codes: &[u8]) -> Result<(), LineError>
         requires small { All (λ c. c < 64) codes.now }
         requires few { length self.old.cards + 1 < 2 ^ 32 }
-        ensures { IsAdded (not marked && nat_le (length codes.now) 80)
+        ensures { IsAdded (not marked && nat_le (length codes.now) CARD_LENGTH)
             (self.old.cards ++ card_of codes.now ∷ []) self.new.cards result }
     {
         if marked || codes.len() > CARD_LENGTH {
@@ -96,16 +94,16 @@ impl TapeBlocks {
         }
     }
 
-    /// Adds a block of these characters, 1 to 32,768, with the last-block mark where it is marked.
+    /// Adds a block of these characters, at least 1, with the last-block mark where it is marked.
     pub fn add(&mut self, marked: bool, codes: Vec<u8>) -> Result<(), LineError>
         requires small { All (λ c. c < 64) codes.items }
         requires few { length self.old.blocks.items + 1 < 2 ^ 32 }
-        ensures { IsAdded (nat_le 1 (length codes.items) && nat_le (length codes.items) 32768)
+        ensures { IsAdded (nat_le 1 (length codes.items) && nat_le (length codes.items) TAPE_BLOCK)
             (self.old.blocks.items
             ++ record { words = words_of (filled codes.items); mark = marked } ∷ [])
             self.new.blocks.items result }
     {
-        if codes.is_empty() || codes.len() > LONGEST_BLOCK {
+        if codes.is_empty() || codes.len() > TAPE_BLOCK {
             return Err(LineError::Fault(JobFault::BadMedium));
         }
         let block = TapeBlock::new(filled(codes)?, marked);

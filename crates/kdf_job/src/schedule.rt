@@ -4,14 +4,13 @@ ghost use Rattle.kdf_schedule.specs.Calls.{order_count, orders_in};
 ghost use Rattle.kdf_schedule.specs.Events.{IsInRange};
 ghost use Rattle.kdf_job.specs.Adding.{IsChecked};
 ghost use Rattle.kdf_job.specs.Draft.{clock_behind, clock_of, count_fault, event_fault};
+ghost use Rattle.kdf_job.specs.Limits.{most_orders};
 ghost use Rattle.kdf_job.specs.WellFormed.{IsSchedule};
 
 use crate::{JobFault, LineError};
+use kdf_limits::EVENTS;
 use kdf_schedule::{Event, MOST_ORDERS};
 use std::alloc::{AllocError, Global};
-
-/// The most events.
-const MOST_EVENTS: usize = 500_000;
 
 /// The schedule, as far as it is read.
 #[derive(Drop)]
@@ -23,7 +22,7 @@ pub struct Schedule {
     clock: u64,
     ghost orders_counted: { orders ≡ order_count events.items },
     ghost clock_set: { clock ≡ clock_of events.items },
-    ghost few: { orders ≤ 20000000 },
+    ghost few: { orders ≤ most_orders },
 }
 
 impl Schedule {
@@ -69,7 +68,7 @@ impl Schedule {
     /// Puts an event after the others.
     #[tactic(auto, using(crate::proofs::Schedules::order_count_push, crate::proofs::Schedules::clock_push))]
     fn push(&mut self, event: Event) -> Result<(), AllocError>
-        requires { order_count self.old.events.items + orders_in event ≤ 20000000 }
+        requires { order_count self.old.events.items + orders_in event ≤ MOST_ORDERS }
         ensures { OnOk result (self.new.events.items ≡ self.old.events.items ++ event ∷ []) }
     {
         self.events.push(event)?;
@@ -94,7 +93,7 @@ impl Schedule {
     fn count_fault(&self) -> Option<JobFault>
         ensures { result ≡ count_fault self.now.events.items }
     {
-        if self.events.len() < MOST_EVENTS {
+        if self.events.len() < EVENTS as usize {
             None
         } else {
             Some(JobFault::TooManyEvents)

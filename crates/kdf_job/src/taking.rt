@@ -13,6 +13,7 @@ use crate::forms::{
 };
 use crate::media::word_of_text;
 use crate::{JobFault, LineError, Place};
+use kdf_limits::PROGRAM_WORDS;
 use std::alloc::Global;
 
 impl Draft {
@@ -100,7 +101,7 @@ impl Draft {
         requires sound { IsSound self.old }
         requires place { self.old.place ≡ BehindSlot p }
         requires least { 32 ≤ size }
-        requires most { size ≤ 8192 }
+        requires most { size ≤ PROGRAM_WORDS }
         ensures { Takes (Ok (AStore size)) 1 self.old self.new result }
     {
         if let Some(fault) = self.store_fault(size) {

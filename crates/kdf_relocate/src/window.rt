@@ -4,14 +4,7 @@ ghost use Rattle.std.specs.Prelude.{All, AllPairs, IfSome, IfOk, OnOk, OnErr, su
 ghost use Rattle.std.specs.List.{list_all};
 ghost use Rattle.kdf_relocate.specs.Windows.{have_windows, windows_from, window, IsBefore, IsInStore};
 
-/// The words that Director keeps for itself, at the begin of the store.
-const FIRST: u32 = 1_024;
-
-/// The words after them.
-const ROOM: u32 = 31_744;
-
-/// The words of a group.
-const GROUP: u16 = 32;
+use kdf_limits::{DIRECTOR_WORDS, GROUP_WORDS, PROGRAMS_WORDS};
 
 /// The words of a slot in the store: from place `base` on, as many as `size`.
 #[derive(Clone, Copy, PartialEq, Eq)]
@@ -50,12 +43,12 @@ impl Window {
     }
 }
 
-/// The windows of the slots, one after the other from place 1,024 on, for sizes in words; a slot that is absent has size 0.
-/// None where a size isn't a number of whole groups of 32 words, or where together they are more than 31,744.
+/// The windows of the slots, one after the other behind the words of Director, for sizes in words; a slot that is absent has size 0.
+/// None where a size isn't a number of whole groups of 32 words, or where together they are more than all programs may have.
 #[tactic(auto, using(crate::proofs::Four::room_of))]
 pub fn windows(sizes: &[u16; 4]) -> Option<[Window; 4]>
     ensures value { result
-        ≡ (if have_windows sizes.now then Some (windows_from 1024 sizes.now) else None) }
+        ≡ (if have_windows sizes.now then Some (windows_from DIRECTOR_WORDS sizes.now) else None) }
     ensures apart { IfSome result (λ w. AllPairs IsBefore w) }
     ensures inside { IfSome result (λ w. All IsInStore w) }
 {
@@ -69,14 +62,14 @@ pub fn windows(sizes: &[u16; 4]) -> Option<[Window; 4]>
 /// The windows of sizes that fit together.
 #[tactic(auto, using(crate::proofs::Four::windows_four, crate::proofs::Four::inside_four))]
 fn laid(sizes: &[u16; 4]) -> [Window; 4]
-    requires { sum sizes.now ≤ 31744 }
-    ensures value { result ≡ windows_from 1024 sizes.now }
+    requires { sum sizes.now ≤ PROGRAMS_WORDS }
+    ensures value { result ≡ windows_from DIRECTOR_WORDS sizes.now }
     ensures apart { AllPairs IsBefore result }
     ensures inside { All IsInStore result }
 {
     let [first, second, third, fourth] = *sizes;
     let first = Window {
-        base: FIRST,
+        base: DIRECTOR_WORDS,
         size: first,
     };
     let second = first.behind(second);
@@ -91,7 +84,7 @@ fn have_room(sizes: &[u16; 4]) -> bool
     ensures { result ≡ have_windows sizes.now }
 {
     if are_whole(sizes) {
-        total(sizes) <= ROOM
+        total(sizes) <= PROGRAMS_WORDS
     } else {
         false
     }
@@ -101,7 +94,7 @@ fn have_room(sizes: &[u16; 4]) -> bool
 fn are_whole(sizes: &[u16; 4]) -> bool
     ensures { result ≡ list_all (λ size. size % 32 == 0) sizes.now }
 {
-    sizes.iter().all(|size| size % GROUP == 0)
+    sizes.iter().all(|size| size % GROUP_WORDS == 0)
 }
 
 /// The words of all slots together.

@@ -36,6 +36,7 @@ use Rattle.kdf_job.proofs.PoolDevices.{a_writer, after_free}
 use Rattle.kdf_job.proofs.Pools.{are_slots}
 use Rattle.kdf_job.proofs.Slots.{apart_more, ds, numbers_last, numbers_more, numbers_same, slots_changed, slots_first, slots_more}
 use Rattle.kdf_report.proofs.JobForms.{IsInRange, IsToldAt, is_store, told_form}
+use Rattle.kdf_job.specs.Limits.{most_words, most_words_together}
 
 -- ---- slots, of which what is loaded turns on everything
 
@@ -157,7 +158,7 @@ fault_then p None none = none
 fault_then p (Some s) none = none
 
 -- `STORE n`
-new_is_slot : (p n : ℕ) → p ≤ 3 → 32 ≤ n → n ≤ 8192 → n % 32 ≡ 0 → IsSlot (slot_of (new_slot p n))
+new_is_slot : (p n : ℕ) → p ≤ 3 → 32 ≤ n → n ≤ most_words → n % 32 ≡ 0 → IsSlot (slot_of (new_slot p n))
 new_is_slot p n few least most groups =
     record {
       number = omega arith;
@@ -170,8 +171,8 @@ new_is_slot p n few least most groups =
       lent = λ k d lt. absurd (omega arith);
     }
 
-begins : (d : Draft) (o : Option SlotDraft) (p n : ℕ) → d.slot ≡ o → IsRead d → p ≤ 3 → slot_fault p d.slot ≡ None → 32 ≤ n → n ≤ 8192 → n % 32 ≡ 0
-    → words_in (slots_told d) + n ≤ 31744 → AreTold (bares d ++ slot_of (new_slot p n) ∷ [])
+begins : (d : Draft) (o : Option SlotDraft) (p n : ℕ) → d.slot ≡ o → IsRead d → p ≤ 3 → slot_fault p d.slot ≡ None → 32 ≤ n → n ≤ most_words → n % 32 ≡ 0
+    → words_in (slots_told d) + n ≤ most_words_together → AreTold (bares d ++ slot_of (new_slot p n) ∷ [])
 begins d None p n is was few above least most groups room =
     let none : d.slots ≡ [] = rw is at was.begun in
     rw (is, none) (slots_first (slot_of (new_slot p n)) (new_is_slot p n few least most groups) refl)
@@ -185,10 +186,11 @@ begins d (Some s) p n is was few above least most groups room =
 groups_told : (n : ℕ) (slots : List SlotJob) → store_fault n slots ≡ None → n % 32 ≡ 0
 groups_told n slots free = grind (arith, nat_tests)
 
-room_told : (n : ℕ) (slots : List SlotJob) → store_fault n slots ≡ None → words_in slots + n ≤ 31744
+room_told : (n : ℕ) (slots : List SlotJob) → store_fault n slots ≡ None → words_in slots + n ≤ most_words_together
 room_told n slots free = grind (arith, nat_tests)
 
-stored : (d : Draft) (p n : ℕ) → d.place ≡ BehindSlot p → IsRead d → 32 ≤ n → n ≤ 8192 → store_fault n (slots_told d) ≡ None → IsRead (with_line (AStore n) d)
+stored : (d : Draft) (p n : ℕ) → d.place ≡ BehindSlot p → IsRead d → 32 ≤ n → n ≤ most_words → store_fault n (slots_told d) ≡ None
+    → IsRead (with_line (AStore n) d)
 stored d p n place was least most free =
     let placed : IsAt (BehindSlot p) d.slot = subst (λ (x : Place). IsAt x d.slot) place was.placed in
     let slots = begins d d.slot p n refl was placed.0 placed.1 least most (groups_told n (slots_told d) free) (room_told n (slots_told d) free) in

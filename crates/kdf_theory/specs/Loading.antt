@@ -5,6 +5,7 @@ use Rattle.kdf_journal.specs.declared.kind.Kind.{Kind}
 use Rattle.kdf_transfer.specs.Slots.{Slot}
 use Rattle.kdf_job.specs.Job.{JobDevice, SlotJob}
 use Rattle.kdf_job.specs.Slots.{lent_kind, slot_with}
+use Rattle.kdf_limits.specs.declared.store.TheConstants.{PROGRAMS_WORDS}
 
 -- what is loaded as a slot: its number, the size of its store, the words of its image, its devices, and those of the
 -- pool, in the order of the job; and whether it is served
@@ -77,6 +78,6 @@ pub record IsLoad (l : SlotLoad) : Type 0 where
 pub record AreLoads (slots : List SlotLoad) : Type 0 where
   pub each : All IsLoad slots
   pub rising : AllPairs IsBelow slots
-  pub total : sum_by (λ (l : SlotLoad). l.size) slots ≤ 31744
+  pub total : sum_by (λ (l : SlotLoad). l.size) slots ≤ PROGRAMS_WORDS
   pub apart : AllPairs AreApart slots
   pub common : AllPairs (λ (a b : SlotLoad). a.pool ≡ b.pool) slots

@@ -15,13 +15,13 @@ use Rattle.kdf_check.specs.Verdict.{IsVerdict}
 use Rattle.kdf_check.specs.declared.verdict.Verdict.{Verdict}
 use Rattle.kdf_check.proofs.Judging.{one_verdict_lem}
 use Rattle.kdf_command.specs.declared.command.Command.{Command}
-use Rattle.kdf_command.specs.declared.command.Command.TheVariants.{Run, Save, Resume, Check, Alone, Asm, Make, Watch}
 use Rattle.kdf_top.specs.declared.status.Status.{Status}
 use Rattle.kdf_top.specs.declared.status.Status.TheVariants as status
-use Rattle.kdf_top.specs.Answers.{IsCalled, IsCalledWhere, IsDueAt, IsFaultless, IsTextOf, IsTrusted, or_decks, status_of, status_of_lines}
-use Rattle.kdf_command.specs.Commands.{keeps_machine}
+use Rattle.kdf_top.specs.Answers.{IsCalled, IsCalledIn, IsCalledWhere, IsDueAt, IsFaultless, IsFaultlessIn, IsTextOf, IsTrusted, IsTrustedIn}
+use Rattle.kdf_top.specs.Answers.{or_decks, status_in, status_of}
+use Rattle.kdf_command.specs.Commands.{AJob, AReport, ASnapshot, TextForm, form_of, keeps_machine}
 use Rattle.kdf_top.specs.Deck.{deck_fault}
-use Rattle.kdf_top.specs.Due.{IsJournalOf, IsJournalWhere, IsTextFrom, Keeps, job_of, journal_in, verdict_lines}
+use Rattle.kdf_top.specs.Due.{IsJournalOf, IsJournalWhere, IsTextBy, IsTextFrom, Keeps, job_of, journal_in, text_from, verdict_lines}
 use Rattle.kdf_top.specs.Loaded.{slots_of}
 use Rattle.kdf_top.specs.Snapshots.{after_job, IsCompared, IsComparedFor, IsSnapshot, status_of_front, status_of_line, status_of_parts, status_of_snapshot}
 use Rattle.kdf_top.proofs.FirstPlaces.{not_same, one_place}
@@ -51,34 +51,25 @@ done_snapshot : (bytes : List ℕ) → IsSnapshot bytes → status_of_snapshot b
 done_snapshot bytes is =
     ap (status_of_front bytes) is.front ∙ ap (status_of_parts bytes) is.split ∙ ap status_of_line is.further
 
-done_lines : (c : Command) (bytes : List ℕ) → IsFaultless c bytes → status_of_lines c bytes ≡ status.Done
-done_lines Run bytes is = ap status_of_line is
-done_lines Save bytes is = ap status_of_line is
-done_lines Resume bytes is = done_snapshot bytes is
-done_lines Check bytes is = ap status_of_line is
-done_lines (Alone p) bytes is = ap status_of_line is
-done_lines (Asm p) bytes is = ap status_of_line is
-done_lines (Make n) bytes is = ap status_of_line is
-done_lines (Watch k w) bytes is = ap status_of_line is
+done_in : (form : TextForm) (bytes : List ℕ) → IsFaultlessIn form bytes → status_in form bytes ≡ status.Done
+done_in AJob bytes is = ap status_of_line is
+done_in AReport bytes is = ap status_of_line is
+done_in ASnapshot bytes is = done_snapshot bytes is
 
 pub done_status : (c : Command) (bytes : List ℕ) → IsFaultless c bytes → deck_fault (job_of c bytes).slots ≡ None → status_of c bytes ≡ status.Done
-done_status c bytes is assembles = ap (λ s. or_decks s (deck_fault (job_of c bytes).slots)) (done_lines c bytes is) ∙ ap (or_decks status.Done) assembles
+done_status c bytes is assembles = ap (λ s. or_decks s (deck_fault (job_of c bytes).slots)) (done_in (form_of c) bytes is) ∙ ap (or_decks status.Done) assembles
 
-called_where : (answers : ℕ → ℕ → Type 0) (c : Command) (bytes : List ℕ) → IsTrusted answers c bytes → IsCalledWhere answers c bytes status.Done status.Done
-called_where answers Run bytes trusted = refl
-called_where answers Save bytes trusted = refl
-called_where answers Resume bytes trusted = trusted
-called_where answers Check bytes trusted = refl
-called_where answers (Alone p) bytes trusted = refl
-called_where answers (Asm p) bytes trusted = refl
-called_where answers (Make n) bytes trusted = refl
-called_where answers (Watch k w) bytes trusted = refl
+called_in : (answers : ℕ → ℕ → Type 0) (form : TextForm) (bytes : List ℕ) → IsTrustedIn answers form bytes
+    → IsCalledIn answers form bytes status.Done status.Done
+called_in answers AJob bytes trusted = refl
+called_in answers AReport bytes trusted = refl
+called_in answers ASnapshot bytes trusted = trusted
 
 pub called_done : (answers : ℕ → ℕ → Type 0) (c : Command) (bytes : List ℕ) → IsFaultless c bytes → deck_fault (job_of c bytes).slots ≡ None
     → IsTrusted answers c bytes
     → IsCalled answers c bytes status.Done
 called_done answers c bytes is assembles trusted =
-    subst (λ found. IsCalledWhere answers c bytes found status.Done) (sym (done_status c bytes is assembles)) (called_where answers c bytes trusted)
+    subst (λ found. IsCalledWhere answers c bytes found status.Done) (sym (done_status c bytes is assembles)) (called_in answers (form_of c) bytes trusted)
 
 -- ---- the machine that is kept has the journal
 
@@ -117,46 +108,39 @@ module _ (answers : ℕ → ℕ → Type 0) (one : (n a b : ℕ) → n < 2 ^ 48 
       one_compared bytes p.0 x y p.2 (subst (λ J. IsCompared bytes J y) same q.2)
 
   -- one answer is called for
+  one_called_in : (form : TextForm) (bytes : List ℕ) (found x y : Status) → IsCalledIn answers form bytes found x
+      → IsCalledIn answers form bytes found y → x ≡ y
+  one_called_in ASnapshot bytes status.Done x y p q = one_compared_for bytes x y p q
+  one_called_in ASnapshot bytes status.Usage x y p q = p ∙ sym q
+  one_called_in ASnapshot bytes (status.Job fault line) x y p q = p ∙ sym q
+  one_called_in ASnapshot bytes (status.Deck slot fault place) x y p q = p ∙ sym q
+  one_called_in ASnapshot bytes status.Large x y p q = p ∙ sym q
+  one_called_in ASnapshot bytes status.ReadFault x y p q = p ∙ sym q
+  one_called_in ASnapshot bytes status.WriteFault x y p q = p ∙ sym q
+  one_called_in ASnapshot bytes status.Memory x y p q = p ∙ sym q
+  one_called_in ASnapshot bytes (status.Snapshot fault line) x y p q = p ∙ sym q
+  one_called_in AJob bytes found x y p q = p ∙ sym q
+  one_called_in AReport bytes found x y p q = p ∙ sym q
+
   pub one_called : (c : Command) (bytes : List ℕ) (found x y : Status) → IsCalledWhere answers c bytes found x → IsCalledWhere answers c bytes found y → x ≡ y
-  one_called Resume bytes status.Done x y p q = one_compared_for bytes x y p q
-  one_called Resume bytes status.Usage x y p q = p ∙ sym q
-  one_called Resume bytes (status.Job fault line) x y p q = p ∙ sym q
-  one_called Resume bytes (status.Deck slot fault place) x y p q = p ∙ sym q
-  one_called Resume bytes status.Large x y p q = p ∙ sym q
-  one_called Resume bytes status.ReadFault x y p q = p ∙ sym q
-  one_called Resume bytes status.WriteFault x y p q = p ∙ sym q
-  one_called Resume bytes status.Memory x y p q = p ∙ sym q
-  one_called Resume bytes (status.Snapshot fault line) x y p q = p ∙ sym q
-  one_called Run bytes found x y p q = p ∙ sym q
-  one_called Save bytes found x y p q = p ∙ sym q
-  one_called Check bytes found x y p q = p ∙ sym q
-  one_called (Alone s) bytes found x y p q = p ∙ sym q
-  one_called (Asm s) bytes found x y p q = p ∙ sym q
-  one_called (Make n) bytes found x y p q = p ∙ sym q
-  one_called (Watch k w) bytes found x y p q = p ∙ sym q
+  one_called c bytes found x y p q = one_called_in (form_of c) bytes found x y p q
 
   one_journal_where : (keeps : Bool) (j : Job) (J K : List Entry) → IsJournalWhere answers keeps j J → IsJournalWhere answers keeps j K → J ≡ K
   one_journal_where true j J K p q = one_for answers (slots_of j) one j.events J K p q
   one_journal_where false j J K p q = p ∙ sym q
 
   -- a journal gives one text
-  one_from : (c : Command) (bytes : List ℕ) (J : List Entry) (d e : List ℕ) → IsTextFrom answers c bytes J d → IsTextFrom answers c bytes J e → d ≡ e
-  one_from Run bytes J d e p q = p ∙ sym q
-  one_from Save bytes J d e p q = p ∙ sym q
-  one_from Resume bytes J d e p q = p ∙ sym q
-  one_from Check bytes J d e p q =
+  one_by : (made : Option (List ℕ)) (bytes d e : List ℕ) → IsTextBy answers made bytes d → IsTextBy answers made bytes e → d ≡ e
+  one_by (Some made) bytes d e p q = p ∙ sym q
+  one_by None bytes d e p q =
       p.2 ∙ ap (λ v. text (verdict_lines v)) (one_judged answers (slots_of (front_job bytes)) (front_job bytes).events (after_job bytes) p.0 q.0 p.1 q.1)
       ∙ sym q.2
-  one_from (Alone s) bytes J d e p q = p ∙ sym q
-  one_from (Asm s) bytes J d e p q = p ∙ sym q
-  one_from (Make n) bytes J d e p q = p ∙ sym q
-  one_from (Watch k w) bytes J d e p q = p ∙ sym q
 
   one_text : (c : Option Command) (bytes d e : List ℕ) → IsTextOf answers c bytes d → IsTextOf answers c bytes e → d ≡ e
   one_text None bytes d e p q = absurd p
   one_text (Some c) bytes d e p q =
       let same : q.0 ≡ p.0 = one_journal_where (keeps_machine c) (job_of c bytes) q.0 p.0 q.1 p.1 in
-      one_from c bytes p.0 d e p.2 (subst (λ J. IsTextFrom answers c bytes J e) same q.2)
+      one_by (text_from c bytes p.0) bytes d e p.2 (subst (λ J. IsTextFrom answers c bytes J e) same q.2)
 
   -- one text is due
   pub one_due_at : (called : Status) (c : Option Command) (bytes d e : List ℕ) → IsDueAt answers called c bytes d → IsDueAt answers called c bytes e → d ≡ e

@@ -16,15 +16,15 @@ use Rattle.kdf_theory.specs.Shown.{Shown}
 use Rattle.kdf_snapshot.specs.Snapshot.{Parts}
 use Rattle.kdf_snapshot.specs.declared.fault.SnapshotFault.{SnapshotFault}
 use Rattle.kdf_command.specs.declared.command.Command.{Command}
-use Rattle.kdf_command.specs.declared.command.Command.TheVariants.{Run, Save, Resume, Check, Alone, Asm, Make, Watch}
 use Rattle.kdf_command.specs.declared.command.Input.{Input}
 use Rattle.kdf_command.specs.declared.command.Input.TheVariants.{Read, Made}
 use Rattle.kdf_top.specs.declared.status.Status.{Status}
 use Rattle.kdf_top.specs.declared.status.Status.TheVariants as status
 use Rattle.kdf_top.specs.Answered.{Inlet, Outlet, IsGiven, IsRun, Takes, TakesBy}
 use Rattle.kdf_top.specs.Answers.{Answers, IsCalled, IsCalledBy, IsCalledWhere, IsFaultless, IsTrusted, called_by, job_text, or_decks, reads_by, status_of}
-use Rattle.kdf_top.specs.Answers.{status_of_lines, text_by}
-use Rattle.kdf_command.specs.Commands.{input_of, is_read, is_too_long, limit_of, text_in}
+use Rattle.kdf_top.specs.Answers.{IsCalledIn, status_in, status_of_lines, text_by}
+use Rattle.kdf_command.specs.Commands.{AJob, AReport, ASnapshot, TextForm, form_of, input_from, input_of, is_read, is_too_long}
+use Rattle.kdf_command.specs.Commands.{limit_in, limit_of, made_from, text_in}
 use Rattle.kdf_top.specs.Deck.{deck_fault}
 use Rattle.kdf_top.specs.Due.{job_of}
 use Rattle.kdf_top.specs.Snapshots.{IsComparedFor, further, parts_in, status_of_front, status_of_line, status_of_parts}
@@ -93,67 +93,47 @@ decks_no_usage status.WriteFault first other e = cc
 decks_no_usage status.Memory first other e = cc
 decks_no_usage (status.Snapshot fault line) first other e = cc
 
-lines_no_usage : (c : Command) (bytes : List ℕ) → status_of_lines c bytes ≢ status.Usage
-lines_no_usage Run bytes e = job_no_usage (job_fault bytes) e
-lines_no_usage Save bytes e = job_no_usage (job_fault bytes) e
-lines_no_usage Resume bytes e = front_no_usage bytes (front_fault bytes) e
-lines_no_usage Check bytes e = job_no_usage (front_fault bytes) e
-lines_no_usage (Alone p) bytes e = job_no_usage (job_fault bytes) e
-lines_no_usage (Asm p) bytes e = job_no_usage (job_fault bytes) e
-lines_no_usage (Make n) bytes e = job_no_usage (job_fault bytes) e
-lines_no_usage (Watch k w) bytes e = job_no_usage (job_fault bytes) e
+lines_no_usage : (form : TextForm) (bytes : List ℕ) → status_in form bytes ≢ status.Usage
+lines_no_usage AJob bytes e = job_no_usage (job_fault bytes) e
+lines_no_usage AReport bytes e = job_no_usage (front_fault bytes) e
+lines_no_usage ASnapshot bytes e = front_no_usage bytes (front_fault bytes) e
 
 compared_no_usage : (answers : ℕ → ℕ → Type 0) (bytes : List ℕ) → ¬ (IsComparedFor answers bytes status.Usage)
 compared_no_usage answers bytes (J, journal, inl p) = let e = p.0 in cc
 compared_no_usage answers bytes (J, journal, inr (inl p)) = let e = p.1 in cc
 compared_no_usage answers bytes (J, journal, inr (inr p)) = let e = p.1 in cc
 
-where_no_usage : (answers : ℕ → ℕ → Type 0) (c : Command) (bytes : List ℕ) (found : Status) → found ≢ status.Usage
-    → ¬ (IsCalledWhere answers c bytes found status.Usage)
-where_no_usage answers Resume bytes status.Done other called = compared_no_usage answers bytes called
-where_no_usage answers Resume bytes status.Usage other called = other refl
-where_no_usage answers Resume bytes (status.Job fault line) other called = other (sym called)
-where_no_usage answers Resume bytes (status.Deck slot fault place) other called = other (sym called)
-where_no_usage answers Resume bytes status.Large other called = other (sym called)
-where_no_usage answers Resume bytes status.ReadFault other called = other (sym called)
-where_no_usage answers Resume bytes status.WriteFault other called = other (sym called)
-where_no_usage answers Resume bytes status.Memory other called = other (sym called)
-where_no_usage answers Resume bytes (status.Snapshot fault line) other called = other (sym called)
-where_no_usage answers Run bytes found other called = other (sym called)
-where_no_usage answers Save bytes found other called = other (sym called)
-where_no_usage answers Check bytes found other called = other (sym called)
-where_no_usage answers (Alone p) bytes found other called = other (sym called)
-where_no_usage answers (Asm p) bytes found other called = other (sym called)
-where_no_usage answers (Make n) bytes found other called = other (sym called)
-where_no_usage answers (Watch k w) bytes found other called = other (sym called)
+in_no_usage : (answers : ℕ → ℕ → Type 0) (form : TextForm) (bytes : List ℕ) (found : Status) → found ≢ status.Usage
+    → ¬ (IsCalledIn answers form bytes found status.Usage)
+in_no_usage answers ASnapshot bytes status.Done other called = compared_no_usage answers bytes called
+in_no_usage answers ASnapshot bytes status.Usage other called = other refl
+in_no_usage answers ASnapshot bytes (status.Job fault line) other called = other (sym called)
+in_no_usage answers ASnapshot bytes (status.Deck slot fault place) other called = other (sym called)
+in_no_usage answers ASnapshot bytes status.Large other called = other (sym called)
+in_no_usage answers ASnapshot bytes status.ReadFault other called = other (sym called)
+in_no_usage answers ASnapshot bytes status.WriteFault other called = other (sym called)
+in_no_usage answers ASnapshot bytes status.Memory other called = other (sym called)
+in_no_usage answers ASnapshot bytes (status.Snapshot fault line) other called = other (sym called)
+in_no_usage answers AJob bytes found other called = other (sym called)
+in_no_usage answers AReport bytes found other called = other (sym called)
 
 called_no_usage : (answers : ℕ → ℕ → Type 0) (c : Command) (bytes : List ℕ) → ¬ (IsCalled answers c bytes status.Usage)
-called_no_usage answers c bytes = where_no_usage answers c bytes (status_of c bytes)
-    (decks_no_usage (status_of_lines c bytes) (deck_fault (job_of c bytes).slots) (lines_no_usage c bytes))
+called_no_usage answers c bytes = in_no_usage answers (form_of c) bytes (status_of c bytes)
+    (decks_no_usage (status_of_lines c bytes) (deck_fault (job_of c bytes).slots) (lines_no_usage (form_of c) bytes))
 
 -- more bytes than a command may read call for Large alone
 too_long_for : (c : Command) (limit : ℕ) (bytes : List ℕ) → input_of c ≡ Read limit → limit < length bytes → called_by (Some c) bytes ≡ status.Large
 too_long_for c limit bytes e long = rw (e, lt-ltb limit (length bytes) long) refl
 
-large_called : (answers : ℕ → ℕ → Type 0) (c : Command) (bytes : List ℕ) → IsCalledWhere answers c bytes status.Large status.Large
-large_called answers Run bytes = refl
-large_called answers Save bytes = refl
-large_called answers Resume bytes = refl
-large_called answers Check bytes = refl
-large_called answers (Alone p) bytes = refl
-large_called answers (Asm p) bytes = refl
-large_called answers (Make n) bytes = refl
-large_called answers (Watch k w) bytes = refl
+large_called : (answers : ℕ → ℕ → Type 0) (form : TextForm) (bytes : List ℕ) → IsCalledIn answers form bytes status.Large status.Large
+large_called answers AJob bytes = refl
+large_called answers AReport bytes = refl
+large_called answers ASnapshot bytes = refl
 
-large_only : (answers : ℕ → ℕ → Type 0) (c : Command) (bytes : List ℕ) (x : Status) → IsCalledWhere answers c bytes status.Large x → x ≡ status.Large
-large_only answers Run bytes x called = called
-large_only answers Save bytes x called = called
-large_only answers Resume bytes x called = called
-large_only answers Check bytes x called = called
-large_only answers (Alone p) bytes x called = called
-large_only answers (Asm p) bytes x called = called
-large_only answers (Make n) bytes x called = called
-large_only answers (Watch k w) bytes x called = called
+large_only : (answers : ℕ → ℕ → Type 0) (form : TextForm) (bytes : List ℕ) (x : Status) → IsCalledIn answers form bytes status.Large x → x ≡ status.Large
+large_only answers AJob bytes x called = called
+large_only answers AReport bytes x called = called
+large_only answers ASnapshot bytes x called = called
 
 short_enough : (c : Command) (limit : ℕ) (bytes : List ℕ) → input_of c ≡ Read limit → length bytes ≤ limit
     → called_by (Some c) bytes ≡ status_of c (job_text c bytes)
@@ -169,28 +149,17 @@ pub reads_it : (c : Command) (limit : ℕ) → input_of c ≡ Read limit → rea
 reads_it c limit e = ap is_read e
 
 -- no command may read more than a text may have
-limit_within : (c : Command) → limit_of c ≤ TEXT_LIMIT
-limit_within Run = omega arith
-limit_within Save = omega arith
-limit_within Resume = omega arith
-limit_within Check = omega arith
-limit_within (Alone p) = omega arith
-limit_within (Asm p) = omega arith
-limit_within (Make n) = omega arith
-limit_within (Watch k w) = omega arith
+limit_within : (form : TextForm) → limit_in form ≤ TEXT_LIMIT
+limit_within AJob = omega arith
+limit_within AReport = omega arith
+limit_within ASnapshot = omega arith
 
-limit_read : (c : Command) (limit : ℕ) → input_of c ≡ Read limit → limit_of c ≡ limit
-limit_read Run limit is = cc
-limit_read Save limit is = cc
-limit_read Resume limit is = cc
-limit_read Check limit is = cc
-limit_read (Alone p) limit is = cc
-limit_read (Asm p) limit is = cc
-limit_read (Make n) limit is = cc
-limit_read (Watch k w) limit is = cc
+limit_read : (made : Option ℕ) (most limit : ℕ) → input_from made most ≡ Read limit → most ≡ limit
+limit_read None most limit is = cc
+limit_read (Some n) most limit is = cc
 
 pub within_limit : (c : Command) (limit : ℕ) → input_of c ≡ Read limit → limit ≤ TEXT_LIMIT
-within_limit c limit is = let same = limit_read c limit is in omega (arith, limit_within c)
+within_limit c limit is = let same = limit_read (made_from c) (limit_of c) limit is in omega (arith, limit_within (form_of c))
 
 makes_it : (c : Command) (n : ℕ) → input_of c ≡ Made n → reads_by (Some c) ≡ false
 makes_it c n e = ap is_read e
@@ -310,8 +279,8 @@ module _ (answers : ℕ → ℕ → Type 0) (c : Command) (limit : ℕ) (is : in
       n =
       λ bytes h. subst (λ found. IsGiven answers (IsCalledWhere answers c (job_text c bytes) found) (Some c) (text_by (Some c) bytes) given kept o n)
       (sym (too_long_for c limit bytes is h))
-      (given_large (IsCalledWhere answers c (job_text c bytes) status.Large) (text_by (Some c) bytes) (large_called answers c (job_text c bytes))
-      (large_only answers c (job_text c bytes))) in
+      (given_large (IsCalledWhere answers c (job_text c bytes) status.Large) (text_by (Some c) bytes) (large_called answers (form_of c) (job_text c bytes))
+      (large_only answers (form_of c) (job_text c bytes))) in
       run_by answers (Some c) (λ x. x ≡ status.Large) [] given kept source source' o n (λ _ e. absurd (cc))
       (given_large (λ x. x ≡ status.Large) (text_by (Some c) []) refl (λ x e. e)) (λ none. absurd (reads none))
       (map_some _ _ source.left over long)

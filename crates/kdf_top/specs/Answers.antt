@@ -7,13 +7,12 @@ use Rattle.kdf_usercode.specs.Faults.{Found}
 use Rattle.kdf_job.specs.Front.{front_fault}
 use Rattle.kdf_job.specs.Reading.{job, job_fault}
 use Rattle.kdf_theory.specs.Shown.{Shown}
-use Rattle.kdf_command.specs.Commands.{command, input_of, is_read, is_too_long, keeps_machine, limit_by, text_in}
+use Rattle.kdf_command.specs.Commands.{AJob, AReport, ASnapshot, TextForm, command, form_of, input_of, is_read, is_too_long, keeps_machine, limit_by, text_in}
 use Rattle.kdf_top.specs.Deck.{deck_fault}
 use Rattle.kdf_top.specs.Due.{IsText, IsTextFrom, Keeps, job_of, journal_in}
 use Rattle.kdf_top.specs.Snapshots.{IsComparedFor, IsSnapshot, status_of_line, status_of_snapshot}
 use Rattle.kdf_top.specs.Text.{usage_line, large_line, job_fault_line, deck_fault_line, snapshot_fault_line}
 use Rattle.kdf_command.specs.declared.command.Command.{Command}
-use Rattle.kdf_command.specs.declared.command.Command.TheVariants.{Resume, Check}
 use Rattle.kdf_top.specs.declared.status.Status.{Status}
 use Rattle.kdf_top.specs.declared.status.Status.TheVariants as status
 
@@ -29,10 +28,13 @@ or_decks status.Done decks = status_of_decks decks
 or_decks called decks = called
 
 -- the first fault of the lines of a command's text, as it is answered; Done where there is none
+abbrev pub status_in : TextForm → List ℕ → Status
+status_in AJob bytes = status_of_line (job_fault bytes)
+status_in AReport bytes = status_of_line (front_fault bytes)
+status_in ASnapshot bytes = status_of_snapshot bytes
+
 abbrev pub status_of_lines : Command → List ℕ → Status
-status_of_lines Resume bytes = status_of_snapshot bytes
-status_of_lines Check bytes = status_of_line (front_fault bytes)
-status_of_lines _ bytes = status_of_line (job_fault bytes)
+status_of_lines c bytes = status_in (form_of c) bytes
 
 -- and then that of a deck
 abbrev pub status_of : Command → List ℕ → Status
@@ -62,9 +64,12 @@ called_for words bytes = called_by (command words) bytes
 
 -- this is called for over a text that calls by itself for `found`: where a snapshot calls for nothing else, it goes by the journal
 -- of the job at its front
+abbrev pub IsCalledIn : (answers : ℕ → ℕ → Type 0) → TextForm → List ℕ → (found called : Status) → Type 0
+IsCalledIn answers ASnapshot bytes status.Done called = IsComparedFor answers bytes called
+IsCalledIn answers form bytes found called = called ≡ found
+
 abbrev pub IsCalledWhere : (answers : ℕ → ℕ → Type 0) → Command → List ℕ → (found called : Status) → Type 0
-IsCalledWhere answers Resume bytes status.Done called = IsComparedFor answers bytes called
-IsCalledWhere answers c bytes found called = called ≡ found
+IsCalledWhere answers c bytes found called = IsCalledIn answers (form_of c) bytes found called
 
 abbrev pub IsCalled : (answers : ℕ → ℕ → Type 0) → Command → List ℕ → Status → Type 0
 IsCalled answers c bytes called = IsCalledWhere answers c bytes (status_of c bytes) called
@@ -143,15 +148,21 @@ abbrev pub is_kept : List (List ℕ) → Status → Bool
 is_kept words given = is_done given && keeps_by (command words)
 
 -- no line of a command's text is faulty
+abbrev pub IsFaultlessIn : TextForm → List ℕ → Type 0
+IsFaultlessIn AJob bytes = job_fault bytes ≡ None
+IsFaultlessIn AReport bytes = front_fault bytes ≡ None
+IsFaultlessIn ASnapshot bytes = IsSnapshot bytes
+
 abbrev pub IsFaultless : Command → List ℕ → Type 0
-IsFaultless Resume bytes = IsSnapshot bytes
-IsFaultless Check bytes = front_fault bytes ≡ None
-IsFaultless _ bytes = job_fault bytes ≡ None
+IsFaultless c bytes = IsFaultlessIn (form_of c) bytes
 
 -- what a snapshot says is what comes of its front job; another text says nothing of that
+abbrev pub IsTrustedIn : (answers : ℕ → ℕ → Type 0) → TextForm → List ℕ → Type 0
+IsTrustedIn answers ASnapshot bytes = IsComparedFor answers bytes status.Done
+IsTrustedIn answers _ bytes = Unit {0}
+
 abbrev pub IsTrusted : (answers : ℕ → ℕ → Type 0) → Command → List ℕ → Type 0
-IsTrusted answers Resume bytes = IsComparedFor answers bytes status.Done
-IsTrusted answers _ bytes = Unit {0}
+IsTrusted answers c bytes = IsTrustedIn answers (form_of c) bytes
 
 -- nothing is wrong with the text of a command, and this is what it made of it: a text, and the machine that it keeps, or none
 pub record IsMade (answers : ℕ → ℕ → Type 0) (c : Command) (bytes made : List ℕ) (kept : Option Shown) : Type 0 where

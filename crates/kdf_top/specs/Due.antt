@@ -24,7 +24,7 @@ use Rattle.kdf_check.specs.declared.verdict.Verdict.TheVariants.{Yes, No}
 use Rattle.kdf_report.specs.Text.{absent_text, alone_text, report_text}
 use Rattle.kdf_report.specs.Summary.{summary_text}
 use Rattle.kdf_watch.specs.Stops.{stops_of}
-use Rattle.kdf_command.specs.Commands.{keeps_machine}
+use Rattle.kdf_command.specs.Commands.{AJob, AReport, ASnapshot, TextForm, form_of, keeps_machine}
 use Rattle.kdf_top.specs.Loaded.{slot_numbered, slots_of}
 use Rattle.kdf_top.specs.Snapshots.{after_job, resumed_job, snapshot_of}
 use Rattle.kdf_command.specs.declared.command.Command.{Command}
@@ -106,21 +106,32 @@ IsVerdictOf answers bytes due =
 -- ---- all of them
 
 -- the job that a command works on, where this is its text
-abbrev pub job_of : Command → List ℕ → Job
-job_of Resume bytes = resumed_job bytes
-job_of Check bytes = front_job bytes
-job_of _ bytes = job bytes
+abbrev pub job_in : TextForm → List ℕ → Job
+job_in AJob bytes = job bytes
+job_in AReport bytes = front_job bytes
+job_in ASnapshot bytes = resumed_job bytes
 
--- the text that a command makes of this one, where J is the journal of its job
+abbrev pub job_of : Command → List ℕ → Job
+job_of c bytes = job_in (form_of c) bytes
+
+-- the text that a command makes of this one, where J is the journal of its job; what `check` writes is none that a journal gives
+abbrev pub text_from : Command → List ℕ → List Entry → Option (List ℕ)
+text_from Run bytes J = Some (report_of (job bytes) J)
+text_from Save bytes J = Some (snapshot_of bytes J)
+text_from Resume bytes J = Some (report_of (resumed_job bytes) J)
+text_from Check bytes J = None
+text_from (Alone p) bytes J = Some (alone_of p (job bytes))
+text_from (Asm p) bytes J = Some (listing_of p (job bytes))
+text_from (Make n) bytes J = Some (summary_of n bytes J)
+text_from (Watch slot address) bytes J = Some (watched_of slot address (job bytes) J)
+
+-- it is the text of a journal, or else a verdict
+abbrev pub IsTextBy : (answers : ℕ → ℕ → Type 0) → Option (List ℕ) → List ℕ → List ℕ → Type 0
+IsTextBy answers (Some made) bytes due = due ≡ made
+IsTextBy answers None bytes due = IsVerdictOf answers bytes due
+
 abbrev pub IsTextFrom : (answers : ℕ → ℕ → Type 0) → Command → List ℕ → List Entry → List ℕ → Type 0
-IsTextFrom answers Run bytes J due = due ≡ report_of (job bytes) J
-IsTextFrom answers Save bytes J due = due ≡ snapshot_of bytes J
-IsTextFrom answers Resume bytes J due = due ≡ report_of (resumed_job bytes) J
-IsTextFrom answers Check bytes J due = IsVerdictOf answers bytes due
-IsTextFrom answers (Alone p) bytes J due = due ≡ alone_of p (job bytes)
-IsTextFrom answers (Asm p) bytes J due = due ≡ listing_of p (job bytes)
-IsTextFrom answers (Make n) bytes J due = due ≡ summary_of n bytes J
-IsTextFrom answers (Watch slot address) bytes J due = due ≡ watched_of slot address (job bytes) J
+IsTextFrom answers c bytes J due = IsTextBy answers (text_from c bytes J) bytes due
 
 -- the journal that a command's text is made from: where it runs its job under Director it is the job's, legal and whole, and true
 -- for the service; and where it doesn't, it is empty

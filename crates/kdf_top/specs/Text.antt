@@ -1,5 +1,6 @@
 -- The lines that say why there is no report, each without the byte that ends it.
 use Rattle.std.specs.Prelude.{ℕ, List, ◌++◌, codes, decimal}
+use Rattle.kdf_command.specs.declared.command.TheConstants.{USAGE}
 use Rattle.kdf_job.specs.declared.fault.JobFault.{JobFault}
 use Rattle.kdf_job.specs.Faults.{name_of}
 use Rattle.kdf_usercode.specs.declared.fault.DeckFault.{DeckFault}
@@ -22,7 +23,7 @@ snapshot_fault_line fault line = codes "SNAPSHOT " ++ snapshot_fault_name fault 
 
 -- the line that tells how the program is used
 abbrev pub usage_line : List ℕ
-usage_line = codes "USAGE kdf9 run, alone K, asm K, make N, save, resume, check, watch K W"
+usage_line = USAGE.now
 
 -- the line that tells that there are more bytes than so many
 abbrev pub large_line : ℕ → List ℕ

@@ -19,6 +19,7 @@ use crate::saving::snapshot;
 use crate::watching::{watch_job, watched_text};
 use kdf_command::Command;
 use kdf_director::Machine;
+use kdf_limits::PROGRAM_WORDS;
 use kdf_report::{report, summary};
 use kdf_service::Service;
 use std::alloc::{AllocError, Global};
@@ -119,7 +120,7 @@ fn watch<F: Fn(u64) -> u64>(
 ) -> Result<Made, MakeError>
     requires service { IsService (F.pre service.now) (F.post service.now) }
     requires within { length job_bytes.now ≤ TEXT_LIMIT }
-    requires address { address < 8192 }
+    requires address { address < PROGRAM_WORDS }
     ensures made { IfOk result (λ made. IsMade (F.post service.now) (command.Watch slot address) job_bytes.now
         made.text.items made.machine) }
     ensures reason { IfErr result (IsReason (IsCalled (F.post service.now) (command.Watch slot address)

@@ -5,6 +5,7 @@ ghost use Rattle.kdf_top.specs.Answers.{refusal_lines};
 ghost use Rattle.kdf_top.specs.Text.{deck_fault_line, job_fault_line, large_line, snapshot_fault_line, usage_line};
 
 use crate::Status;
+use kdf_command::USAGE;
 use kdf_job::JobFault;
 use kdf_snapshot::SnapshotFault;
 use kdf_usercode::DeckFault;
@@ -41,10 +42,8 @@ fn write_refusal(out: &mut String, limit: usize, status: Status) -> Result<(), A
 fn write_usage(out: &mut String) -> Result<(), AllocError>
     ensures { OnOk result (Adds out.old out.new (usage_line ∷ [])) }
 {
-    writeln!(
-        out,
-        "USAGE kdf9 run, alone K, asm K, make N, save, resume, check, watch K W"
-    )
+    let usage = USAGE;
+    writeln!(out, "{usage}")
 }
 
 /// A fault of the job, and its line.

@@ -14,6 +14,7 @@ ghost use Rattle.kdf_top.specs.Loaded.{HasImages, slots_of};
 
 use kdf_director::Machine;
 use kdf_job::Job;
+use kdf_limits::PROGRAM_WORDS;
 use kdf_place::Image;
 use kdf_report::report;
 use kdf_service::Service;
@@ -37,7 +38,7 @@ pub fn watch_job<F: Fn(u64) -> u64>(
     requires service { IsService (F.pre service.now) (F.post service.now) }
     requires job { IsJob (shown_job job.now) }
     requires images { HasImages (shown_job job.now).slots images.now }
-    requires address { address < 8192 }
+    requires address { address < PROGRAM_WORDS }
     ensures slots { IfOk result (λ x. x.0.slots ≡ slots_of (shown_job job.now)) }
     ensures journal { IfOk result (λ x. IsJournalFor (F.post service.now) x.0.slots (shown_job job.now).events
         x.0.journal) }

@@ -3,8 +3,8 @@
 #![tactic(auto, unfolding(crate::specs::Commands::command, kdf_text::specs::Numbers::value))]
 
 ghost use Rattle.std.specs.Prelude.{◌≡◌, [], ◌∷◌, Some, None, codes};
-ghost use Rattle.kdf_command.specs.Commands.{command};
-ghost use Rattle.kdf_command.specs.declared.command.Command.TheVariants.{Run, Alone, Asm, Make, Watch};
+ghost use Rattle.kdf_command.specs.Commands.{command, limit_by};
+ghost use Rattle.kdf_command.specs.declared.command.Command.TheVariants.{Run, Resume, Check, Alone, Asm, Make, Watch};
 
 /// A name alone.
 pub fn commands_of_a_name()
@@ -17,6 +17,14 @@ pub fn commands_of_a_name()
     ensures empty_word { command ([] ∷ []) ≡ None }
     ensures second_is_empty { command (codes "run" ∷ [] ∷ []) ≡ None }
     ensures flag { command (codes "-h" ∷ []) ≡ None }
+{}
+
+/// The most bytes of a text.
+pub fn limits()
+    ensures job { limit_by (Some Run) ≡ 4194304 }
+    ensures none { limit_by None ≡ 4194304 }
+    ensures more { limit_by (Some Resume) ≡ 268435456 }
+    ensures report { limit_by (Some Check) ≡ 268435456 }
 {}
 
 /// A name and a slot.

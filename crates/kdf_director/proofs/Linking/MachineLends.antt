@@ -45,6 +45,7 @@ use Rattle.kdf_director.proofs.Linking.OwnStates.{program_is, state_is}
 use Rattle.kdf_places.proofs.WordsHereAndOut.{word_out_one, here_word}
 use Rattle.kdf_director.proofs.Physical.PartsShow.{none_kind}
 use Rattle.kdf_director.proofs.Turns.AfterTheTry.{word_shown}
+use Rattle.kdf_limits.specs.declared.store.TheConstants.{DIRECTOR_WORDS}
 
 -- ---- windows
 
@@ -53,10 +54,10 @@ size_same [] p = refl
 size_same (l ∷ loads) p = ap (cond (eqb l.p p) l.size) (size_same loads p)
 
 -- those of the sizes that were loaded
-pub windows_same : (loads : List Loaded) → windows_from 1024 (sizes_of (map loaded loads)) ≡ windows_in (map slot_loaded loads)
+pub windows_same : (loads : List Loaded) → windows_from DIRECTOR_WORDS (sizes_of (map loaded loads)) ≡ windows_in (map slot_loaded loads)
 windows_same loads =
-    ap₂ (λ a b. windows_from 1024 (a ∷ b ∷ size_at (map loaded loads) 2 ∷ size_at (map loaded loads) 3 ∷ [])) (size_same loads 0) (size_same loads 1)
-    ∙ ap₂ (λ c d. windows_from 1024 (size_in (map slot_loaded loads) 0 ∷ size_in (map slot_loaded loads) 1 ∷ c ∷ d ∷ [])) (size_same loads 2)
+    ap₂ (λ a b. windows_from DIRECTOR_WORDS (a ∷ b ∷ size_at (map loaded loads) 2 ∷ size_at (map loaded loads) 3 ∷ [])) (size_same loads 0) (size_same loads 1)
+    ∙ ap₂ (λ c d. windows_from DIRECTOR_WORDS (size_in (map slot_loaded loads) 0 ∷ size_in (map slot_loaded loads) 1 ∷ c ∷ d ∷ [])) (size_same loads 2)
     (size_same loads 3)
 
 abbrev reached : Reach → Window
@@ -108,7 +109,8 @@ some_same : {x y : State} → Some x ≡ Some y → x ≡ y
 some_same e = cc
 
 module _ (windows : List Window) (loads : List Loaded) (seats : List Seat) (s : Shared) (J : List Entry) (room : ℕ) (many : length loads ≡ length seats)
-    (a : Agrees (map slot_loaded loads) (reaches_in windows loads) seats s J) (placed : windows ≡ windows_from 1024 (sizes_of (map loaded loads))) where
+    (a : Agrees (map slot_loaded loads) (reaches_in windows loads) seats s J)
+    (placed : windows ≡ windows_from DIRECTOR_WORDS (sizes_of (map loaded loads))) where
   abbrev slots : List Slot
   slots = map slot_loaded loads
 

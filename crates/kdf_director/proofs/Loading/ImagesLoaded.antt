@@ -10,6 +10,7 @@ use Rattle.kdf_director.specs.Fields.Filled.{with_images, with_words}
 use Rattle.kdf_director.specs.Fields.Parts.{window_at}
 use Rattle.kdf_director.proofs.Loading.StoreFilled.{IsStore, word_there, words_other, words_store, words_there, zeros}
 use Rattle.kdf_theory.proofs.JobsLoaded.{no_load}
+use Rattle.kdf_limits.specs.declared.store.TheConstants.{STORE_WORDS}
 
 -- a place that none of a slot's words has
 abbrev pub IsOutside : List Window → ℕ → SlotLoad → Type 0
@@ -17,7 +18,7 @@ IsOutside windows x l = (x < (window_at windows l.p).base) ⊎ ((window_at windo
 
 -- a slot's words are in the store
 abbrev pub IsWithin : List Window → SlotLoad → Type 0
-IsWithin windows l = (window_at windows l.p).base + length l.words ≤ 32768
+IsWithin windows l = (window_at windows l.p).base + length l.words ≤ STORE_WORDS
 
 pub images_store : (windows : List Window) (cells : Cells) (xs : List SlotLoad) → IsStore cells
     → ((i : ℕ) → i < length xs → IsWithin windows (get_or xs i no_load)) → IsStore (with_images windows cells xs)

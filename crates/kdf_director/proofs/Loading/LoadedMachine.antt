@@ -38,6 +38,7 @@ use Rattle.kdf_theory.proofs.JobsLoaded.{are_slots, found, missing, no_load}
 use Rattle.kdf_director.proofs.Loading.DevicesByNumber.{IsOwnSpot, apart_both, idle_flight, numbers_same, picked, pool_flight, small_of, unpicked}
 use Rattle.kdf_transfer.proofs.Numbers.{length-numbers, limit_is, number_at, number_past}
 use Rattle.kdf_director.proofs.Loading.SizesLoaded.{IsWindow, size_is, window_of}
+use Rattle.kdf_limits.specs.declared.store.TheConstants.{DIRECTOR_WORDS, STORE_GROUPS, STORE_WORDS}
 
 abbrev no_reach : Reach
 no_reach = record { base = 0; size = 0; devices = []; pool = []; served = false }
@@ -75,22 +76,22 @@ unfolding unclaimed
 many_marks = length-replicate 16 false
 
 -- the window of each slot
-pub windows_fit : (xs : List SlotLoad) (windows : List Window) (i : ℕ) → AreLoads xs → windows ≡ windows_from 1024 (sizes_of xs) → i < length xs
+pub windows_fit : (xs : List SlotLoad) (windows : List Window) (i : ℕ) → AreLoads xs → windows ≡ windows_from DIRECTOR_WORDS (sizes_of xs) → i < length xs
     → IsWindow (window_at windows (get_or xs i no_load).p) (get_or xs i no_load).size
 windows_fit xs windows i are windows_are lt =
     let p : ℕ = (get_or xs i no_load).p in
     subst (λ w. IsWindow (window_at w p) (get_or xs i no_load).size) (sym windows_are)
-    (subst (IsWindow (window_at (windows_from 1024 (sizes_of xs)) p)) (size_is xs i no_load are.rising lt)
+    (subst (IsWindow (window_at (windows_from DIRECTOR_WORDS (sizes_of xs)) p)) (size_is xs i no_load are.rising lt)
     (window_of xs p (are.each i no_load lt).number (λ j e less. (are.each j e less).groups)))
 
-windows_inside : (xs : List SlotLoad) (windows : List Window) (i : ℕ) → AreLoads xs → windows ≡ windows_from 1024 (sizes_of xs) → All IsInStore windows
-    → i < length xs → (window_at windows (get_or xs i no_load).p).base + (window_at windows (get_or xs i no_load).p).size ≤ 32768
+windows_inside : (xs : List SlotLoad) (windows : List Window) (i : ℕ) → AreLoads xs → windows ≡ windows_from DIRECTOR_WORDS (sizes_of xs)
+    → All IsInStore windows → i < length xs → (window_at windows (get_or xs i no_load).p).base + (window_at windows (get_or xs i no_load).p).size ≤ STORE_WORDS
 windows_inside xs windows i are windows_are inside lt =
     let n = (are.each i no_load lt).number in
     let f : length windows ≡ 4 = ap length windows_are in
     (inside (get_or xs i no_load).p no_window (omega arith)).to
 
-words_within : (xs : List SlotLoad) (windows : List Window) (i : ℕ) → AreLoads xs → windows ≡ windows_from 1024 (sizes_of xs) → All IsInStore windows
+words_within : (xs : List SlotLoad) (windows : List Window) (i : ℕ) → AreLoads xs → windows ≡ windows_from DIRECTOR_WORDS (sizes_of xs) → All IsInStore windows
     → i < length xs → IsWithin windows (get_or xs i no_load)
 words_within xs windows i are windows_are inside lt =
     let a = windows_inside xs windows i are windows_are inside lt in
@@ -99,13 +100,13 @@ words_within xs windows i are windows_are inside lt =
     omega arith
 
 -- the words of each slot lie in the store
-pub all_within : (ls : List Loaded) (windows : List Window) → AreLoads (map loaded ls) → windows ≡ windows_from 1024 (sizes_of (map loaded ls))
-    → All IsInStore windows → All (λ (l : Loaded). (window_at windows l.p).base + length l.words.items ≤ 32768) ls
+pub all_within : (ls : List Loaded) (windows : List Window) → AreLoads (map loaded ls) → windows ≡ windows_from DIRECTOR_WORDS (sizes_of (map loaded ls))
+    → All IsInStore windows → All (λ (l : Loaded). (window_at windows l.p).base + length l.words.items ≤ STORE_WORDS) ls
 all_within ls windows are windows_are inside i d lt =
     subst (IsWithin windows) (get_or-map loaded ls i d no_load lt)
     (words_within (map loaded ls) windows i are windows_are inside (let n = length-map ls loaded in omega arith))
 
-module _ (xs : List SlotLoad) (are : AreLoads xs) (windows : List Window) (windows_are : windows ≡ windows_from 1024 (sizes_of xs))
+module _ (xs : List SlotLoad) (are : AreLoads xs) (windows : List Window) (windows_are : windows ≡ windows_from DIRECTOR_WORDS (sizes_of xs))
     (inside : All IsInStore windows) (before : AllPairs IsBefore windows) (cells : Cells) (cells_are : cells ≡ with_images windows zero_cells xs)
     (spots : List Spot) (spots_are : spots ≡ by_number (idle_spot xs)) where
   abbrev reaches : List Reach
@@ -145,7 +146,7 @@ module _ (xs : List SlotLoad) (are : AreLoads xs) (windows : List Window) (windo
   window_fits : (i : ℕ) → i < length xs → IsWindow (window_at windows (at i).p) (at i).size
   window_fits i lt = windows_fit xs windows i are windows_are lt
 
-  in_store : (i : ℕ) → i < length xs → base i + (window_at windows (at i).p).size ≤ 32768
+  in_store : (i : ℕ) → i < length xs → base i + (window_at windows (at i).p).size ≤ STORE_WORDS
   in_store i lt = windows_inside xs windows i are windows_are inside lt
 
   apart : (i j : ℕ) → i < j → j < length xs → base i + (window_at windows (at i).p).size ≤ base j
@@ -199,9 +200,9 @@ module _ (xs : List SlotLoad) (are : AreLoads xs) (windows : List Window) (windo
   whole_is : AreWhole cells
   whole_is g ws is =
       ⊎_elim
-      (λ (lt : g < 1024). let h = store.each g lt in let same : h.words ≡ ws = cc (sym h.here ∙ is) in ap length (sym same) ∙ h.full)
-      (λ (past : 1024 ≤ g). cc (sym is ∙ get_or_past cells g None (let m = store.many in omega arith)))
-      (cases_lt g 1024)
+      (λ (lt : g < STORE_GROUPS). let h = store.each g lt in let same : h.words ≡ ws = cc (sym h.here ∙ is) in ap length (sym same) ∙ h.full)
+      (λ (past : STORE_GROUPS ≤ g). cc (sym is ∙ get_or_past cells g None (let m = store.many in omega arith)))
+      (cases_lt g STORE_GROUPS)
 
   sound : IsSound s
   sound =
@@ -400,7 +401,7 @@ module _ (xs : List SlotLoad) (are : AreLoads xs) (windows : List Window) (windo
     progresses_are : by_number (own_progress q spots) ≡ by_number (λ d. progress_on (numbered l.devices d))
     progresses_are = numbers_same (own_progress q spots) (λ d. progress_on (numbered l.devices d)) new_progress (λ d low. progress_is d)
 
-    here : (x : ℕ) → x < 32768 → word_at_place cells (leases_of spots) x ≡ word_there cells x
+    here : (x : ℕ) → x < STORE_WORDS → word_at_place cells (leases_of spots) x ≡ word_there cells x
     here x low =
         let h = store.each (x / 32) (omega arith) in
         ap (word_where (leases_of spots) x) h.here ∙ sym (ap (word_where none_lent x) h.here)
@@ -417,7 +418,7 @@ module _ (xs : List SlotLoad) (are : AreLoads xs) (windows : List Window) (windo
         (λ a less.
         let low : a < (window_at windows l.p).size = let e = length-map-range_with_len word 0 (window_at windows l.p).size in omega arith in
         let low' : a < l.size = let e = size_same in omega arith in
-        let top : base i + a < 32768 = let e = in_store i lt in omega arith in
+        let top : base i + a < STORE_WORDS = let e = in_store i lt in omega arith in
         get_or-map-range_with_len word 0 (window_at windows l.p).size a a 0 low (omega arith)
         ∙ here (base i + a) top ∙ word_is i a lt low' ∙ sym (filled_at l.size l.words a))
       where
@@ -466,7 +467,7 @@ reaches_same windows [] = refl
 reaches_same windows (l ∷ ls) = ap₂ (λ r rs. r ∷ rs) (reach_same windows l) (reaches_same windows ls)
 
 module _ (windows : List Window) (slots : List Loaded) (store : Cells) (programs : List Program) (places : List Place) (are : AreLoads (map loaded slots))
-    (windows_are : windows ≡ windows_from 1024 (sizes_of (map loaded slots))) (inside : All IsInStore windows) (before : AllPairs IsBefore windows)
+    (windows_are : windows ≡ windows_from DIRECTOR_WORDS (sizes_of (map loaded slots))) (inside : All IsInStore windows) (before : AllPairs IsBefore windows)
     (store_is : store ≡ with_images windows zero_cells (map loaded slots))
     (programs_made : seats_in programs ≡ map (λ (l : Loaded). first_seat (loaded l)) slots)
     (none_held : map (λ (x : Program). x.hold) programs ≡ map (λ (l : Loaded). None) slots)

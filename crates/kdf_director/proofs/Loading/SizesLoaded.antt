@@ -11,6 +11,7 @@ use Rattle.kdf_relocate.specs.Windows.{have_windows, windows_from}
 use Rattle.kdf_theory.specs.Loading.{IsBelow, SlotLoad}
 use Rattle.kdf_director.specs.Fields.Filled.{size_at, sizes_of}
 use Rattle.kdf_director.specs.Fields.Parts.{window_at}
+use Rattle.kdf_limits.specs.declared.store.TheConstants.{DIRECTOR_WORDS, PROGRAMS_WORDS}
 
 -- a size in one of four places at most
 on : (q k size : ℕ) → q ≡ k → cond (eqb q k) size 0 ≡ size
@@ -90,12 +91,12 @@ abbrev IsWhole : ℕ → Type 0
 IsWhole size = eqb (size % 32) 0 ≡ true
 
 -- sizes that are whole groups and fit have windows
-pub sizes_fit : (xs : List SlotLoad) → All (λ (l : SlotLoad). l.size % 32 ≡ 0) xs → sum_by (λ (l : SlotLoad). l.size) xs ≤ 31744
+pub sizes_fit : (xs : List SlotLoad) → All (λ (l : SlotLoad). l.size % 32 ≡ 0) xs → sum_by (λ (l : SlotLoad). l.size) xs ≤ PROGRAMS_WORDS
     → have_windows (sizes_of xs) ≡ true
 sizes_fit xs whole fits = fit (size_at xs 0) (size_at xs 1) (size_at xs 2) (size_at xs 3) (whole_at xs 0 whole) (whole_at xs 1 whole) (whole_at xs 2 whole)
     (whole_at xs 3 whole) (let e = total_is xs in omega arith)
   where
-    fit : (a b c d : ℕ) → a % 32 ≡ 0 → b % 32 ≡ 0 → c % 32 ≡ 0 → d % 32 ≡ 0 → a + b + c + d ≤ 31744 → have_windows (a ∷ b ∷ c ∷ d ∷ []) ≡ true
+    fit : (a b c d : ℕ) → a % 32 ≡ 0 → b % 32 ≡ 0 → c % 32 ≡ 0 → d % 32 ≡ 0 → a + b + c + d ≤ PROGRAMS_WORDS → have_windows (a ∷ b ∷ c ∷ d ∷ []) ≡ true
     fit a b c d wa wb wc wd le =
         let all : sum (a ∷ b ∷ c ∷ d ∷ []) ≡ 0 + a + b + c + d = refl in
         ap₂ (λ x y. x && y)
@@ -104,7 +105,7 @@ sizes_fit xs whole fits = fit (size_at xs 0) (size_at xs 1) (size_at xs 2) (size
         (All-cons IsWhole b (c ∷ d ∷ []) (eq-eqb (b % 32) 0 wb)
         (All-cons IsWhole c (d ∷ []) (eq-eqb (c % 32) 0 wc)
         (All-cons IsWhole d [] (eq-eqb (d % 32) 0 wd) (All-nil IsWhole))))))
-        (le-leb (sum (a ∷ b ∷ c ∷ d ∷ [])) 31744 (omega arith))
+        (le-leb (sum (a ∷ b ∷ c ∷ d ∷ [])) PROGRAMS_WORDS (omega arith))
 
 -- the slot that has a number has its size
 pub size_is : (xs : List SlotLoad) (i : ℕ) (d : SlotLoad) → AllPairs IsBelow xs → i < length xs → size_at xs (get_or xs i d).p ≡ (get_or xs i d).size
@@ -121,12 +122,12 @@ pub record IsWindow (w : Window) (size : ℕ) : Type 0 where
   pub at_group : w.base % 32 ≡ 0
   pub size_is : w.size ≡ size
 
-window_is : (p a b c d : ℕ) → p < 4 → a % 32 ≡ 0 → b % 32 ≡ 0 → c % 32 ≡ 0 → IsWindow (window_at (windows_from 1024 (a ∷ b ∷ c ∷ d ∷ [])) p)
+window_is : (p a b c d : ℕ) → p < 4 → a % 32 ≡ 0 → b % 32 ≡ 0 → c % 32 ≡ 0 → IsWindow (window_at (windows_from DIRECTOR_WORDS (a ∷ b ∷ c ∷ d ∷ [])) p)
     (get_or (a ∷ b ∷ c ∷ d ∷ []) p 0)
 window_is zero a b c d lt wa wb wc = record { at_group = refl; size_is = refl }
-window_is (suc zero) a b c d lt wa wb wc = record { at_group = (let e : (1024 + a) % 32 ≡ 0 = omega arith in e); size_is = refl }
-window_is (suc (suc zero)) a b c d lt wa wb wc = record { at_group = (let e : (1024 + a + b) % 32 ≡ 0 = omega arith in e); size_is = refl }
-window_is (suc (suc (suc zero))) a b c d lt wa wb wc = record { at_group = (let e : (1024 + a + b + c) % 32 ≡ 0 = omega arith in e); size_is = refl }
+window_is (suc zero) a b c d lt wa wb wc = record { at_group = (let e : (DIRECTOR_WORDS + a) % 32 ≡ 0 = omega arith in e); size_is = refl }
+window_is (suc (suc zero)) a b c d lt wa wb wc = record { at_group = (let e : (DIRECTOR_WORDS + a + b) % 32 ≡ 0 = omega arith in e); size_is = refl }
+window_is (suc (suc (suc zero))) a b c d lt wa wb wc = record { at_group = (let e : (DIRECTOR_WORDS + a + b + c) % 32 ≡ 0 = omega arith in e); size_is = refl }
 window_is (suc (suc (suc (suc p)))) a b c d lt wa wb wc = absurd (omega arith)
 
 four_at : (f : ℕ → ℕ) (p : ℕ) → p < 4 → get_or (f 0 ∷ f 1 ∷ f 2 ∷ f 3 ∷ []) p 0 ≡ f p
@@ -137,7 +138,7 @@ four_at f (suc (suc (suc zero))) lt = refl
 four_at f (suc (suc (suc (suc p)))) lt = absurd (omega arith)
 
 pub window_of : (xs : List SlotLoad) (p : ℕ) → p < 4 → All (λ (l : SlotLoad). l.size % 32 ≡ 0) xs
-    → IsWindow (window_at (windows_from 1024 (sizes_of xs)) p) (size_at xs p)
+    → IsWindow (window_at (windows_from DIRECTOR_WORDS (sizes_of xs)) p) (size_at xs p)
 window_of xs p lt whole =
-    subst (IsWindow (window_at (windows_from 1024 (sizes_of xs)) p)) (four_at (size_at xs) p lt)
+    subst (IsWindow (window_at (windows_from DIRECTOR_WORDS (sizes_of xs)) p)) (four_at (size_at xs) p lt)
     (window_is p (size_at xs 0) (size_at xs 1) (size_at xs 2) (size_at xs 3) lt (whole_at xs 0 whole) (whole_at xs 1 whole) (whole_at xs 2 whole))

@@ -7,6 +7,7 @@ use Rattle.kdf_lockout.specs.Groups.{Cells, Lent, group_at, is_out, with_word, w
 use Rattle.kdf_places.specs.Words.{word_at_place, word_where}
 use Rattle.kdf_director.specs.Fields.Filled.{kept_word, with_words, zero_cells}
 use Rattle.kdf_places.proofs.WordsHereAndOut.{word_of-put_word}
+use Rattle.kdf_limits.specs.declared.store.TheConstants.{STORE_GROUPS, STORE_WORDS}
 
 -- a group is here, with its words
 pub record IsHere (cells : Cells) (g : ℕ) : Type 0 where
@@ -14,10 +15,10 @@ pub record IsHere (cells : Cells) (g : ℕ) : Type 0 where
   pub here : group_at cells g ≡ Some words
   pub full : length words ≡ 32
 
--- a store of 1,024 groups, all of them here
+-- a store of all its groups, all of them here
 pub record IsStore (cells : Cells) : Type 0 where
-  pub many : length cells ≡ 1024
-  pub each : (g : ℕ) → g < 1024 → IsHere cells g
+  pub many : length cells ≡ STORE_GROUPS
+  pub each : (g : ℕ) → g < STORE_GROUPS → IsHere cells g
 
 abbrev pub none_lent : ℕ → Option Lent
 none_lent d = None
@@ -36,22 +37,23 @@ groups n = replicate n (Some (zeros 32))
 zero_at : (n : ℕ) (g : ℕ) → g < n → group_at (groups n) g ≡ Some (zeros 32)
 zero_at n g lt = get_or-replicate n g (Some (zeros 32)) None lt
 
-zero_cell : (g : ℕ) → g < 1024 → group_at zero_cells g ≡ Some (zeros 32)
+zero_cell : (g : ℕ) → g < STORE_GROUPS → group_at zero_cells g ≡ Some (zeros 32)
 unfolding zero_cells
-zero_cell g lt = zero_at 1024 g lt
+zero_cell g lt = zero_at STORE_GROUPS g lt
 
 zero_many : (n : ℕ) → length (groups n) ≡ n
 zero_many n = length-replicate n (Some (zeros 32))
 
-pub zero_count : length zero_cells ≡ 1024
+pub zero_count : length zero_cells ≡ STORE_GROUPS
 unfolding zero_cells
-zero_count = zero_many 1024
+zero_count = zero_many STORE_GROUPS
 
-zero_is : (n : ℕ) → n ≡ 1024 → groups n ≡ zero_cells
+zero_is : (n : ℕ) → n ≡ STORE_GROUPS → groups n ≡ zero_cells
 unfolding zero_cells
 zero_is n is = ap groups is
 
-pub ok_zero : {E : Type 0} (n : ℕ) (result : Result Cells E) → n ≡ 1024 → IfOk result (λ cells. cells ≡ groups n) → IfOk result (λ cells. cells ≡ zero_cells)
+pub ok_zero : {E : Type 0} (n : ℕ) (result : Result Cells E) → n ≡ STORE_GROUPS → IfOk result (λ cells. cells ≡ groups n)
+    → IfOk result (λ cells. cells ≡ zero_cells)
 ok_zero n (Ok cells) is made = made ∙ zero_is n is
 ok_zero n (Err e) is made = tt
 
@@ -67,10 +69,10 @@ zero_store = record {
 zero_word : (n i : ℕ) → i < n → get_or (zeros n) i 0 ≡ 0
 zero_word n i lt = get_or-replicate n i 0 0 lt
 
-pub zero_there : (x : ℕ) → x < 32768 → word_there zero_cells x ≡ 0
+pub zero_there : (x : ℕ) → x < STORE_WORDS → word_there zero_cells x ≡ 0
 zero_there x lt = ap (word_where none_lent x) (zero_cell (x / 32) (omega arith)) ∙ zero_word 32 (x % 32) (omega arith)
 
-module _ (cells : Cells) (place w : ℕ) (store : IsStore cells) (inside : place < 32768) where
+module _ (cells : Cells) (place w : ℕ) (store : IsStore cells) (inside : place < STORE_WORDS) where
   at : IsHere cells (place / 32)
   at = store.each (place / 32) (omega arith)
 
@@ -93,7 +95,7 @@ module _ (cells : Cells) (place w : ℕ) (store : IsStore cells) (inside : place
         full = length-set at.words (place % 32) w ∙ at.full;
       }
 
-  put_other : (g : ℕ) → g < 1024 → g ≢ place / 32 → IsHere put g
+  put_other : (g : ℕ) → g < STORE_GROUPS → g ≢ place / 32 → IsHere put g
   put_other g lt other =
       record {
         words = (store.each g lt).words;
@@ -116,12 +118,12 @@ module _ (cells : Cells) (place w : ℕ) (store : IsStore cells) (inside : place
       ∙ word_of-put_word cells none_lent at.words place w x at.here (let n = store.many in omega arith) (let n = at.full in omega arith)
 
 -- the words lie from their place on, and the others are as they were
-pub words_store : (cells : Cells) (place : ℕ) (words : List ℕ) → IsStore cells → place + length words ≤ 32768 → IsStore (with_words cells place words)
+pub words_store : (cells : Cells) (place : ℕ) (words : List ℕ) → IsStore cells → place + length words ≤ STORE_WORDS → IsStore (with_words cells place words)
 words_store cells place [] store inside = store
 words_store cells place (w ∷ words) store inside = words_store (kept_word cells place w) (place + 1) words (kept_store cells place w store (omega arith))
     (omega arith)
 
-pub words_other : (cells : Cells) (place : ℕ) (words : List ℕ) (x : ℕ) → IsStore cells → place + length words ≤ 32768
+pub words_other : (cells : Cells) (place : ℕ) (words : List ℕ) (x : ℕ) → IsStore cells → place + length words ≤ STORE_WORDS
     → (x < place) ⊎ (place + length words ≤ x) → word_there (with_words cells place words) x ≡ word_there cells x
 words_other cells place [] x store inside out = refl
 words_other cells place (w ∷ words) x store inside out =
@@ -137,7 +139,7 @@ words_other cells place (w ∷ words) x store inside out =
     apart (inl low) = λ e. absurd (omega arith)
     apart (inr high) = λ e. absurd (omega arith)
 
-pub words_there : (cells : Cells) (place : ℕ) (words : List ℕ) (a : ℕ) → IsStore cells → place + length words ≤ 32768 → a < length words
+pub words_there : (cells : Cells) (place : ℕ) (words : List ℕ) (a : ℕ) → IsStore cells → place + length words ≤ STORE_WORDS → a < length words
     → word_there (with_words cells place words) (place + a) ≡ get_or words a 0
 words_there cells place [] a store inside lt = absurd (omega arith)
 words_there cells place (w ∷ words) zero store inside lt =

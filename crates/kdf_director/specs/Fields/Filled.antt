@@ -15,6 +15,7 @@ use Rattle.kdf_director.specs.Fields.Parts.{Seat, window_at}
 use Rattle.kdf_places.specs.Spots.{Spot, no_spot}
 use Rattle.kdf_job.specs.Slots.{lent_kind, numbered}
 use Rattle.kdf_theory.specs.Loading.{SlotLoad}
+use Rattle.kdf_limits.specs.declared.store.TheConstants.{STORE_GROUPS}
 
 -- what was loaded
 abbrev pub loaded : Loaded → SlotLoad
@@ -51,9 +52,9 @@ with_images windows cells [] = cells
 with_images windows cells (l ∷ slots) =
     with_images windows (with_words cells (window_at windows l.p).base l.words) slots
 
--- a store of 1,024 groups, all words zero
+-- a store of all its groups, all words zero
 unfoldable pub zero_cells : Cells
-zero_cells = replicate 1024 (Some (replicate 32 0))
+zero_cells = replicate STORE_GROUPS (Some (replicate 32 0))
 
 -- a program before its first order
 abbrev pub first_seat : SlotLoad → Seat

@@ -16,6 +16,7 @@ use Rattle.kdf_director.specs.Fields.Parts.{Reach, Seat}
 use Rattle.kdf_director.specs.Fields.Running.{reaches_in, seats_in, IsRunning}
 use Rattle.kdf_director.specs.Fields.Viewed.{slot_loaded, states_in}
 use Rattle.kdf_theory.specs.Shown.{Shown}
+use Rattle.kdf_limits.specs.declared.store.TheConstants.{DIRECTOR_WORDS}
 
 -- the slots as they were loaded, what each of them reaches, the programs, what holds each of them, and what they share
 pub record Standing : Type 0 where
@@ -39,7 +40,7 @@ standing slots windows store programs places =
 -- are over what they share
 pub record IsYard (slots : List Loaded) (windows : List Window) (store : Cells) (programs : List Program)
     (places : List Place) : Type 0 where
-  pub placed : windows ≡ windows_from 1024 (sizes_of (map loaded slots))
+  pub placed : windows ≡ windows_from DIRECTOR_WORDS (sizes_of (map loaded slots))
   pub many : length slots ≡ length programs
   pub dry : AreDry places
   pub running : IsRunning (reaches_in windows slots) (seats_in programs) (shared_in store places)

@@ -9,6 +9,7 @@ use Rattle.kdf_transfer.specs.ByNumber.{by_number}
 use Rattle.kdf_director.proofs.Loading.LoadedMachine.{all_within, is_loaded, is_yard}
 use Rattle.kdf_director.proofs.Loading.SizesLoaded.{sizes_fit}
 use Rattle.kdf_director.proofs.load.equip.Goals as goal
+use Rattle.kdf_limits.specs.declared.store.TheConstants.{DIRECTOR_WORDS, STORE_WORDS}
 
 pub windows_of-windows-requires : goal.windows_of-windows-requires
 windows_of-windows-requires c =
@@ -17,15 +18,15 @@ windows_of-windows-requires c =
 
 pub filled_store-requires : goal.filled_store-requires
 filled_store-requires c =
-    subst (All (λ (l : Loaded). (window_at c.windows_of-windows.result l.p).base + length l.words.items ≤ 32768)) (sym c.deref-2.ensures.value)
+    subst (All (λ (l : Loaded). (window_at c.windows_of-windows.result l.p).base + length l.words.items ≤ STORE_WORDS)) (sym c.deref-2.ensures.value)
     (all_within c.args.slots.items c.windows_of-windows.result c.requires
-    (c.windows_of-windows.ensures.value ∙ ap (λ xs. windows_from 1024 (sizes_of (map loaded xs))) c.deref.ensures.value)
+    (c.windows_of-windows.ensures.value ∙ ap (λ xs. windows_from DIRECTOR_WORDS (sizes_of (map loaded xs))) c.deref.ensures.value)
     c.windows_of-windows.ensures.inside)
 
 pub invariant_of-result : goal.invariant_of-result
 invariant_of-result c =
     is_yard _ c.args.slots.items _ _ _ c.requires
-    (c.windows_of-windows.ensures.value ∙ ap (λ xs. windows_from 1024 (sizes_of (map loaded xs))) c.deref.ensures.value)
+    (c.windows_of-windows.ensures.value ∙ ap (λ xs. windows_from DIRECTOR_WORDS (sizes_of (map loaded xs))) c.deref.ensures.value)
     c.windows_of-windows.ensures.inside
     c.windows_of-windows.ensures.apart
     (c.in_ok-store.ensures ∙ ap (λ xs. with_images c.windows_of-windows.result zero_cells (map loaded xs)) c.deref-2.ensures.value)
@@ -37,7 +38,7 @@ invariant_of-result c =
 pub returns : goal.returns
 returns c =
     is_loaded _ c.args.slots.items _ _ _ c.requires
-    (c.windows_of-windows.ensures.value ∙ ap (λ xs. windows_from 1024 (sizes_of (map loaded xs))) c.deref.ensures.value)
+    (c.windows_of-windows.ensures.value ∙ ap (λ xs. windows_from DIRECTOR_WORDS (sizes_of (map loaded xs))) c.deref.ensures.value)
     c.windows_of-windows.ensures.inside
     c.windows_of-windows.ensures.apart
     (c.in_ok-store.ensures ∙ ap (λ xs. with_images c.windows_of-windows.result zero_cells (map loaded xs)) c.deref-2.ensures.value)
