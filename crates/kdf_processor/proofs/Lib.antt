@@ -8,7 +8,6 @@ pub mod Classes
 pub mod Finding
 pub mod Frees
 pub mod Pending
-pub mod Small
 pub mod Shifted
 pub mod Words
 pub mod EachEffect

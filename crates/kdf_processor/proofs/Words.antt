@@ -1,31 +1,33 @@
 -- The word of which an order asks the service is the one that its nest tells ahead.
-use Rattle.std.proofs.Common.{◌≡◌, ℕ, Bool, true, false, cond, eqb, ltb, List, [], ◌∷◌, Option, Some, None, refl, sym, ap, ◌∙◌}
+use Rattle.std.proofs.Common.{◌≡◌, ℕ, ◌+◌, ◌%◌, ◌^◌, Bool, true, false, cond, eqb, ltb, List, [], ◌∷◌, length, Option, Some, None, refl, sym, ap, ◌∙◌}
 use Rattle.std.specs.Prelude.{◌&&◌}
+use Rattle.kdf_journal.specs.declared.failure.Failure.{Failure}
 use Rattle.kdf_journal.specs.declared.failure.Failure.TheVariants.{Liv, Nouv, Claim, Out}
 use Rattle.kdf_journal.specs.declared.kind.Kind.{Kind}
 use Rattle.kdf_qstore.specs.declared.triple.Triple.{Triple}
 use Rattle.kdf_qstore.specs.Triples.{triple_at, triple_of}
 use Rattle.kdf_syllable.specs.declared.order.Order.{Order}
-use Rattle.kdf_syllable.specs.declared.order.Order.TheVariants as order
 use Rattle.kdf_transfer.specs.AtOnce.{has_area, kind_of}
 use Rattle.kdf_transfer.specs.Devices.{is_kind}
 use Rattle.kdf_transfer.specs.declared.order.TransferOrder.{TransferOrder}
+use Rattle.kdf_transfer.specs.declared.test.Test.TheVariants.{Flag, Start, Mark}
 use Rattle.kdf_transfer.specs.declared.wanted.Wanted.TheVariants.{Kinded, Labelled}
+use Rattle.kdf_processor.specs.declared.plan.Plan.TheVariants.{ClaimKind, ClaimLabel}
 use Rattle.kdf_processor.specs.declared.registers.Registers.{Registers}
-use Rattle.kdf_processor.specs.declared.look.Ahead.{Ahead}
-use Rattle.kdf_processor.specs.declared.look.Ahead.TheVariants as ahead
 use Rattle.kdf_processor.specs.declared.step.Need.{Need}
-use Rattle.kdf_processor.specs.Ahead.{act_word, ahead_word, word_ahead, word_asked, IsAhead, IsOrdinary, IsTaking}
+use Rattle.kdf_processor.specs.Ahead.{act_word, word_ahead, word_asked}
 use Rattle.kdf_processor.specs.Claims.{claim, free_for, kind_numbered, may_take, taken}
-use Rattle.kdf_processor.specs.Effect.{Act, Nothing, Writes, Starts, Asks, Acquires, Releases, Spools, of_change, Effect, Failing, Ending, Changing, Fetching}
+use Rattle.kdf_processor.specs.Effect.{Change, Refused, Going, of_change, Effect, Failing, Ending, Changing, Fetching}
 use Rattle.kdf_processor.specs.Effect.{Keeping, Testing, Starting, Asking, IsBusy, IsOut, Time, FreeOf, OfService, Claiming, Returning, Spooling}
-use Rattle.kdf_processor.specs.Needs.{effect_at, effect_or_liv, needs_at, order_at}
-use Rattle.kdf_processor.specs.Outcome.{done, held_or, outcome}
+use Rattle.kdf_processor.specs.Needs.{effect_at, effect_needs, effect_or_liv, needs_at, order_at}
+use Rattle.kdf_processor.specs.Outcome.{done, held_or, outcome, try_effect}
+use Rattle.kdf_processor.specs.Plan.{below_two, try_change, try_plan}
 use Rattle.kdf_processor.specs.View.{View, first_pending}
 use Rattle.kdf_processor.specs.State.{Claims, is_pooled}
-use Rattle.kdf_processor.specs.Table.{asks_service, claims_found, claims_kind, claims_or_takes, device_effect, effect, guarded, is_area, on_top, out_effect}
-use Rattle.kdf_processor.specs.Table.{plain_row, spools, starts, transfer_of, with_nest}
-use Rattle.kdf_processor.proofs.Small.{IsMild, change_mild, guarded_mild, minor_mild}
+use Rattle.kdf_processor.specs.Table.{answered_in_tr, asks_service, change_of, claims_found, claims_kind, claims_or_takes, counts_on, direct_effect, effect}
+use Rattle.kdf_processor.specs.Table.{guarded, has_bit, indirect_address, indirect_effect, indirect_half, is_area, moves, on_top, out_effect, part_of}
+use Rattle.kdf_processor.specs.Table.{query_effect, sets_tr, spools, starts, transfer_of, with_nest}
+use Rattle.kdf_processor.proofs.EachEffect.{each_effect}
 
 -- where an order of this effect asks the service, the program is served, and the nest tells the word
 pub record IsTold (c : Claims) (nest : List ℕ) (e : Effect) : Type 0 where
@@ -39,30 +41,12 @@ IsNoAsk e = word_asked e ≡ None
 none_told : (c : Claims) (nest : List ℕ) (e : Effect) → IsNoAsk e → IsTold c nest e
 none_told c nest e none = record { served = λ word is. cc; ahead = λ word is. cc }
 
-mild_told : (c : Claims) (nest : List ℕ) (e : Effect) → IsMild e → IsTold c nest e
-mild_told c nest (Failing kind) h = none_told c nest (Failing kind) refl
-mild_told c nest (Ending after) h = none_told c nest (Ending after) refl
-mild_told c nest (Changing after) h = none_told c nest (Changing after) refl
-mild_told c nest (Fetching a after) h = none_told c nest (Fetching a after) refl
-mild_told c nest (Keeping a w after) h = none_told c nest (Keeping a w after) refl
-mild_told c nest (Testing d what after) h = none_told c nest (Testing d what after) refl
-mild_told c nest (Starting d o first last after) h = absurd h
-mild_told c nest (Asking (IsBusy d) after) h = none_told c nest (Asking (IsBusy d) after) refl
-mild_told c nest (Asking (IsOut first last) after) h = none_told c nest (Asking (IsOut first last) after) refl
-mild_told c nest (Asking Time after) h = none_told c nest (Asking Time after) refl
-mild_told c nest (Asking (FreeOf kind) after) h = absurd h
-mild_told c nest (Asking (OfService word) after) h = absurd h
-mild_told c nest (Claiming d after) h = none_told c nest (Claiming d after) refl
-mild_told c nest (Returning pooled d after) h = none_told c nest (Returning pooled d after) refl
-mild_told c nest (Spooling stream first last after) h = absurd h
-
 either_told : (c : Claims) (nest : List ℕ) (b : Bool) (x y : Effect) → (b ≡ true → IsTold c nest x) → IsTold c nest y → IsTold c nest (cond b x y)
 either_told c nest true x y hx hy = hx refl
 either_told c nest false x y hx hy = hy
 
-either_no_ask : (b : Bool) (x y : Effect) → IsNoAsk x → IsNoAsk y → IsNoAsk (cond b x y)
-either_no_ask true x y hx hy = hx
-either_no_ask false x y hx hy = hy
+checked_told : (c : Claims) (nest : List ℕ) (b : Bool) (e : Effect) (kind : Failure) → IsTold c nest e → IsTold c nest (cond b e (Failing kind))
+checked_told c nest b e kind h = either_told c nest b e (Failing kind) (λ _. h) (none_told c nest (Failing kind) refl)
 
 -- the checks make no effect anything but a failure
 guarded_told : (c : Claims) (nest : List ℕ) (e : Effect) → IsTold c nest e → IsTold c nest (guarded c e)
@@ -70,32 +54,68 @@ unfolding guarded
 guarded_told c nest (Failing kind) h = h
 guarded_told c nest (Ending after) h = h
 guarded_told c nest (Changing after) h = h
-guarded_told c nest (Fetching a after) h = mild_told c nest (guarded c (Fetching a after)) (guarded_mild c (Fetching a after) tt)
-guarded_told c nest (Keeping a w after) h = mild_told c nest (guarded c (Keeping a w after)) (guarded_mild c (Keeping a w after) tt)
-guarded_told c nest (Testing d what after) h = mild_told c nest (guarded c (Testing d what after)) (guarded_mild c (Testing d what after) tt)
+guarded_told c nest (Fetching a after) h = checked_told c nest _ (Fetching a after) Liv h
+guarded_told c nest (Keeping a w after) h = checked_told c nest _ (Keeping a w after) Liv h
+guarded_told c nest (Testing d Flag after) h = checked_told c nest _ (Testing d Flag after) Claim h
+guarded_told c nest (Testing d Start after) h = checked_told c nest _ (Testing d Start after) Claim h
+guarded_told c nest (Testing d Mark after) h = checked_told c nest _ (Testing d Mark after) Claim h
 guarded_told c nest (Starting d o first last after) h =
-    none_told c nest (guarded c (Starting d o first last after))
-    (either_no_ask (is_kind (kind_of o) (claim c d)) _ (Failing Claim)
-    (either_no_ask (has_area o) _ (Starting d o first last after)
-    (either_no_ask (is_area c.size first last) (Starting d o first last after) (Failing Liv) refl refl) refl)
-    refl)
-guarded_told c nest (Asking (IsBusy d) after) h = mild_told c nest (guarded c (Asking (IsBusy d) after)) (guarded_mild c (Asking (IsBusy d) after) tt)
-guarded_told c nest (Asking (IsOut first last) after) h = mild_told c nest (guarded c (Asking (IsOut first last) after))
-    (guarded_mild c (Asking (IsOut first last) after) tt)
+    checked_told c nest (is_kind (kind_of o) (claim c d)) _ Claim
+    (either_told c nest (has_area o) _ (Starting d o first last after)
+    (λ _. checked_told c nest (is_area c.size first last) (Starting d o first last after) Liv h) h)
+guarded_told c nest (Asking (IsBusy d) after) h = checked_told c nest _ (Asking (IsBusy d) after) Claim h
+guarded_told c nest (Asking (IsOut first last) after) h = checked_told c nest _ (Asking (IsOut first last) after) Liv h
 guarded_told c nest (Asking Time after) h = h
 guarded_told c nest (Asking (FreeOf kind) after) h = h
 guarded_told c nest (Asking (OfService word) after) h = h
 guarded_told c nest (Claiming d after) h = h
-guarded_told c nest (Returning pooled d after) h = mild_told c nest (guarded c (Returning pooled d after)) (guarded_mild c (Returning pooled d after) tt)
-guarded_told c nest (Spooling stream first last after) h =
-    none_told c nest (guarded c (Spooling stream first last after))
-    (either_no_ask (is_area c.size first last) (Spooling stream first last after) (Failing Liv) refl refl)
+guarded_told c nest (Returning pooled d after) h = checked_told c nest _ (Returning pooled d after) Claim h
+guarded_told c nest (Spooling stream first last after) h = checked_told c nest _ (Spooling stream first last after) Liv h
 
--- ---- OUT
+-- ---- orders that move a word or test a device
+
+either_no_ask : (b : Bool) (x y : Effect) → IsNoAsk x → IsNoAsk y → IsNoAsk (cond b x y)
+either_no_ask true x y hx hy = hx
+either_no_ask false x y hx hy = hy
 
 top_no_ask : (below : List ℕ) (f : ℕ → List ℕ → Effect) → ((n : ℕ) (rest : List ℕ) → IsNoAsk (f n rest)) → IsNoAsk (on_top (Failing Nouv) below f)
 top_no_ask [] f h = refl
 top_no_ask (n ∷ rest) f h = h n rest
+
+moves_no_ask : (t : Bool) (r : Registers) (n address : ℕ) (half : Option ℕ) (u : Bool) (q : ℕ) → IsNoAsk (moves t r n address half u q)
+moves_no_ask true r n address half u q = top_no_ask r.nest _ (λ n1 below. refl)
+moves_no_ask false r n address half u q =
+    either_no_ask (ltb (length r.nest) 16) (Fetching address (λ w. with_nest n (part_of half w ∷ r.nest) (counts_on u q r))) (Failing Nouv) refl refl
+
+indirect_no_ask : (r : Registers) (code k q : ℕ) → IsNoAsk (indirect_effect r code k q)
+unfolding indirect_effect
+indirect_no_ask r code k q =
+    moves_no_ask (has_bit 8 code) r 2 (indirect_address code (triple_at r.q k).m (triple_at r.q q).m)
+    (indirect_half code (triple_at r.q q).m) (has_bit 4 code) q
+
+direct_no_ask : (r : Registers) (t u : Bool) (q a : ℕ) → IsNoAsk (direct_effect r t u q a)
+unfolding direct_effect
+direct_no_ask r t u q a = moves_no_ask t r 3 ((a + (triple_at r.q q).m) % 2 ^ 16) None u q
+
+query_no_ask : (r : Registers) (b : ℕ) (t : Triple) → IsNoAsk (query_effect r b t)
+unfolding query_effect
+query_no_ask r b t =
+    either_no_ask (eqb b 0) (Asking (IsBusy t.c) (answered_in_tr r)) _ refl
+    (either_no_ask (eqb b 1) (Asking (IsOut t.i t.m) (answered_in_tr r)) _ refl
+    (either_no_ask (eqb b 2) (Testing t.c Flag (sets_tr r)) _ refl
+    (either_no_ask (eqb b 3) (Testing t.c Start (sets_tr r)) _ refl
+    (either_no_ask (eqb b 4) (Testing t.c Mark (sets_tr r)) _ refl
+    (either_no_ask (eqb b 5) (Testing t.c Flag (λ is. with_nest 2 r.nest r)) (Failing Liv) refl refl)))))
+
+starts_no_ask : (r : Registers) (t : Triple) (o : Option TransferOrder) → IsNoAsk (starts r t o)
+starts_no_ask r t None = refl
+starts_no_ask r t (Some o) = refl
+
+change_no_ask : (x : Change) → IsNoAsk (of_change x)
+change_no_ask (Refused kind) = refl
+change_no_ask (Going after) = refl
+
+-- ---- OUT
 
 found_no_ask : (r : Registers) (rest : List ℕ) (o : Option ℕ) → IsNoAsk (claims_found r rest o)
 found_no_ask r rest None = refl
@@ -148,26 +168,17 @@ top_told : (c : Claims) (r : Registers) (nest : List ℕ) → IsTold c nest (on_
 top_told c r [] = none_told c [] (Failing Nouv) refl
 top_told c r (number ∷ below) = out_told c r number below
 
-starts_told : (c : Claims) (nest : List ℕ) (r : Registers) (t : Triple) (o : Option TransferOrder) → IsTold c nest (starts r t o)
-starts_told c nest r t None = none_told c nest (starts r t None) refl
-starts_told c nest r t (Some o) = none_told c nest (starts r t (Some o)) refl
-
 effect_told : (c : Claims) (r : Registers) (o : Order) → IsTold c r.nest (effect c r o)
-effect_told c r (order.Plain code) =
-    either_told c r.nest (eqb code 0x21) (guarded c (on_top (Failing Nouv) r.nest (out_effect c r))) (of_change (plain_row r code))
-    (λ _. guarded_told c r.nest (on_top (Failing Nouv) r.nest (out_effect c r)) (top_told c r r.nest))
-    (mild_told c r.nest (of_change (plain_row r code)) (change_mild (plain_row r code)))
-effect_told c r (order.Indirect code k q) = mild_told c r.nest _ (minor_mild c r (order.Indirect code k q) tt)
-effect_told c r (order.Single code q) = mild_told c r.nest _ (minor_mild c r (order.Single code q) tt)
-effect_told c r (order.Copies code q k) = mild_told c r.nest _ (minor_mild c r (order.Copies code q k) tt)
-effect_told c r (order.Shift code by) = mild_told c r.nest _ (minor_mild c r (order.Shift code by) tt)
-effect_told c r (order.Device code q) =
-    guarded_told c r.nest (device_effect r code (triple_at r.q q)) (starts_told c r.nest r (triple_at r.q q) (transfer_of code (triple_at r.q q).m))
-effect_told c r (order.Query b q) = mild_told c r.nest _ (minor_mild c r (order.Query b q) tt)
-effect_told c r (order.Jump x target) = mild_told c r.nest _ (minor_mild c r (order.Jump x target) tt)
-effect_told c r (order.Exit n) = mild_told c r.nest _ (minor_mild c r (order.Exit n) tt)
-effect_told c r (order.Direct t u q a) = mild_told c r.nest _ (minor_mild c r (order.Direct t u q a) tt)
-effect_told c r (order.Set constant) = mild_told c r.nest _ (minor_mild c r (order.Set constant) tt)
+effect_told c r =
+    each_effect c r (IsTold c r.nest) (IsTold c r.nest) (guarded_told c r.nest) (λ x. none (of_change x) (change_no_ask x)) (top_told c r r.nest)
+    (λ code k q. none (indirect_effect r code k q) (indirect_no_ask r code k q))
+    (λ t u q a. none (direct_effect r t u q a) (direct_no_ask r t u q a))
+    (λ code q. none (starts r (triple_at r.q q) (transfer_of code (triple_at r.q q).m))
+    (starts_no_ask r (triple_at r.q q) (transfer_of code (triple_at r.q q).m)))
+    (λ b q. none (query_effect r b (triple_at r.q q)) (query_no_ask r b (triple_at r.q q)))
+  where
+    none : (e : Effect) → IsNoAsk e → IsTold c r.nest e
+    none = none_told c r.nest
 
 or_liv_told : (c : Claims) (r : Registers) (o : Option Order) → IsTold c r.nest (effect_or_liv c r o)
 or_liv_told c r None = none_told c r.nest (Failing Liv) refl
@@ -224,36 +235,23 @@ untold_word v r untold = by_word (act_word (outcome v r).act) refl
     by_word None is = refl
     by_word (Some word) is = cc (sym untold ∙ (word_told v r word is).1)
 
--- where an ask of the service is ahead, it is of that word
-ordinary_word : (act : Act) → IsOrdinary act → act_word act ≡ None
-ordinary_word Nothing is = refl
-ordinary_word (Writes a w) is = refl
-ordinary_word (Starts d o first last) is = refl
-ordinary_word (Asks (IsBusy d) answer) is = refl
-ordinary_word (Asks (IsOut first last) answer) is = refl
-ordinary_word (Asks Time answer) is = refl
-ordinary_word (Asks (FreeOf kind) answer) is = refl
-ordinary_word (Asks (OfService word) answer) is = absurd is
-ordinary_word (Acquires d) is = refl
-ordinary_word (Releases pooled d) is = refl
-ordinary_word (Spools stream first last) is = refl
+-- an order asks it neither where it is held up, nor by a change of registers, nor by a claim
+unasked : (v : View) (r : Registers) (e : Effect) → IsNoAsk e → act_word (try_effect v r e).act ≡ None
+unasked v r e none = by_need (first_pending v (effect_needs v.mine e))
+  where
+    by_need : (o : Option Need) → act_word (held_or r o (done v r e)).act ≡ None
+    by_need (Some need) = refl
+    by_need None = done_word v r e ∙ none
 
-taking_word : (act : Act) → IsTaking act → act_word act ≡ None
-taking_word Nothing is = refl
-taking_word (Writes a w) is = refl
-taking_word (Starts d o first last) is = refl
-taking_word (Asks (IsBusy d) answer) is = refl
-taking_word (Asks (IsOut first last) answer) is = refl
-taking_word (Asks Time answer) is = refl
-taking_word (Asks (FreeOf kind) answer) is = refl
-taking_word (Asks (OfService word) answer) is = absurd is
-taking_word (Acquires d) is = refl
-taking_word (Releases pooled d) is = refl
-taking_word (Spools stream first last) is = refl
+pub change_word : (v : View) (r : Registers) (o : Order) → act_word (try_change v r o).act ≡ None
+change_word v r o = unasked v r (of_change (change_of r o)) (change_no_ask (change_of r o))
 
-pub ahead_asks : (act : Act) (a : Ahead) → IsAhead act a → ahead_word a ≡ act_word act
-ahead_asks act (ahead.Starts d o first last) is = sym (ap act_word is)
-ahead_asks act (ahead.Spools stream first last) is = sym (ap act_word is)
-ahead_asks act (ahead.Asks word) is = sym is
-ahead_asks act ahead.Takes is = sym (taking_word act is)
-ahead_asks act ahead.Else is = sym (ordinary_word act is)
+pub label_word : (v : View) (r : Registers) (label : ℕ) → act_word (try_plan v r (ClaimLabel label)).act ≡ None
+label_word v r label =
+    let free = free_for (Labelled label) v.claims in
+    unasked v r (claims_found r (below_two r.nest) free) (found_no_ask r (below_two r.nest) free)
+
+pub kind_word : (v : View) (r : Registers) (kind : Kind) → act_word (try_plan v r (ClaimKind kind)).act ≡ None
+kind_word v r kind =
+    let free = free_for (Kinded kind) v.claims in
+    unasked v r (claims_or_takes v.claims r (below_two r.nest) kind free) (takes_no_ask v.claims r (below_two r.nest) kind free)

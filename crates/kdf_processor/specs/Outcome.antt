@@ -48,9 +48,13 @@ done v r (Claiming d after) = went r after (Acquires d)
 done v r (Returning pooled d after) = went r after (Releases pooled d)
 done v r (Spooling stream first last after) = went r after (Spools stream first last)
 
+-- held up by this need
+abbrev pub held : Registers → Need → Outcome
+held r need = record { step = Held need; registers = r; act = Nothing }
+
 -- held up by the first need that is pending, or else the outcome
 abbrev pub held_or : Registers → Option Need → Outcome → Outcome
-held_or r (Some need) o = record { step = Held need; registers = r; act = Nothing }
+held_or r (Some need) o = held r need
 held_or r None o = o
 
 -- the outcome of the next order

@@ -2,12 +2,14 @@
 use Rattle.std.specs.Prelude.{◌≡◌, ◌≢◌, ℕ, ◌%◌, ◌^◌, ◌<◌, ◌≤◌, true, Option, Some, None, List, [], ◌∷◌, length}
 use Rattle.kdf_syllable.specs.declared.order.Order.{Order}
 use Rattle.kdf_syllable.specs.declared.order.Order.TheVariants as order
-use Rattle.kdf_syllable.specs.Spelling.{IsQ}
+use Rattle.kdf_syllable.specs.Spelling.{IsOrder, IsQ}
 use Rattle.kdf_processor.specs.declared.plan.Access.{Access}
 use Rattle.kdf_processor.specs.declared.plan.Plan.{Plan}
 use Rattle.kdf_processor.specs.declared.plan.Plan.TheVariants.{Fail, End, Fetch, Keep, Count, Begin, Examine, Await, AskBusy, AskArea, AskTime, AskService}
 use Rattle.kdf_processor.specs.declared.plan.Plan.TheVariants.{ClaimLabel, ClaimKind, GiveBack, Spool}
 use Rattle.kdf_processor.specs.declared.plan.Beginning.{Beginning}
+use Rattle.kdf_processor.specs.declared.planning.Planned.{Planned}
+use Rattle.kdf_processor.specs.declared.planning.Planned.TheVariants as way
 use Rattle.kdf_processor.specs.declared.registers.Registers.{Registers}
 use Rattle.kdf_transfer.specs.declared.test.Test.TheVariants.{Flag}
 use Rattle.kdf_transfer.specs.AtOnce.{kind_of, has_area, IsArea}
@@ -18,9 +20,9 @@ use Rattle.kdf_processor.specs.Claims.{claim, is_claimed, free_for}
 use Rattle.kdf_processor.specs.Effect.{Act, Nothing, Acquires, of_change}
 use Rattle.kdf_processor.specs.Effect.{Effect, Failing, Ending, Changing, Fetching, Keeping, Testing, Starting, Asking, IsBusy, IsOut, Time, Returning}
 use Rattle.kdf_processor.specs.Effect.{Spooling}
-use Rattle.kdf_processor.specs.Needs.{effect_or_liv}
-use Rattle.kdf_processor.specs.Outcome.{Outcome, done, try_effect}
-use Rattle.kdf_processor.specs.View.{View}
+use Rattle.kdf_processor.specs.Needs.{effect_needs, effect_or_liv}
+use Rattle.kdf_processor.specs.Outcome.{Outcome, done, held, try_effect}
+use Rattle.kdf_processor.specs.View.{View, first_pending}
 use Rattle.kdf_processor.specs.Table.{with_nest, part_of, with_part, counts_on, asks_service, effect, change_of, sets_tr, answered_in_tr, claims_found}
 use Rattle.kdf_processor.specs.Table.{claims_or_takes}
 
@@ -150,3 +152,26 @@ IsChange (order.Direct t u q a) = ⊥
 IsChange (order.Device code q) = ⊥
 IsChange (order.Query b q) = ⊥
 IsChange _ = Unit {0}
+
+-- what comes of an order that is planned so
+abbrev pub planned_outcome : View → Registers → Planned → Outcome
+planned_outcome v r (way.Held need) = held r need
+planned_outcome v r (way.Change o) = try_change v r o
+planned_outcome v r (way.Label label) = try_plan v r (ClaimLabel label)
+planned_outcome v r (way.Kind kind) = try_plan v r (ClaimKind kind)
+planned_outcome v r (way.Act plan) = done_plan v r plan
+
+-- a plan can be carried out: what it names is there, it is settled, and none of its needs is pending
+pub record IsReady (v : View) (r : Registers) (plan : Plan) : Type 0 where
+  pub sound : IsSound v.claims plan
+  pub settled : IsSettled plan
+  pub operands : HasOperands r.nest plan
+  pub free : first_pending v (effect_needs v.mine (planned v.claims plan r)) ≡ None
+
+-- an order can be obeyed as it is planned
+abbrev pub CanObey : View → Registers → Planned → Type 0
+CanObey v r (way.Held need) = Unit {0}
+CanObey v r (way.Change o) = IsOrder o × IsChange o
+CanObey v r (way.Label label) = HasOperands r.nest (ClaimLabel label)
+CanObey v r (way.Kind kind) = HasOperands r.nest (ClaimKind kind)
+CanObey v r (way.Act plan) = IsReady v r plan

@@ -1,16 +1,13 @@
 //! Obeying one order over any port.
-ghost use Rattle.std.specs.Prelude.{◌≡◌, ◌<◌, [], ◌∷◌, None, IfOk, false, length};
-ghost use Rattle.std.specs.Result.{result_ok};
-ghost use Rattle.kdf_decode.specs.Decoding.{first_decoded};
+ghost use Rattle.std.specs.Prelude.{◌≡◌, ◌<◌, None, false, length};
 ghost use Rattle.kdf_syllable.specs.Spelling.{IsOrder};
 ghost use Rattle.kdf_transfer.specs.declared.wanted.Wanted.TheVariants.{Kinded};
 ghost use Rattle.kdf_processor.specs.Claims.{free_for};
 ghost use Rattle.kdf_processor.specs.Effect.{Nothing};
-ghost use Rattle.kdf_processor.specs.Fetch.{IsFetchedAt};
 ghost use Rattle.kdf_processor.specs.Needs.{effect_needs, group_of};
 ghost use Rattle.kdf_processor.specs.Outcome.{Obeyed, outcome, counted};
-ghost use Rattle.kdf_processor.specs.Plan.{planned, done_plan, try_plan, try_change, try_order, try_decoded};
-ghost use Rattle.kdf_processor.specs.Plan.{IsAccess, IsSound, IsSettled, IsChange, HasOperands, below_top};
+ghost use Rattle.kdf_processor.specs.Plan.{planned, done_plan, planned_outcome, try_plan, try_change};
+ghost use Rattle.kdf_processor.specs.Plan.{CanObey, IsAccess, IsSound, IsSettled, IsChange, HasOperands, below_top};
 ghost use Rattle.kdf_processor.specs.Table.{with_nest};
 ghost use Rattle.kdf_processor.specs.View.{first_pending};
 
@@ -20,13 +17,12 @@ use crate::acting::{
 };
 use crate::change::change;
 use crate::counting::count;
-use crate::fetch::{Fetched, fetch_order};
 use crate::moves::{merged, pop_kept, push_fetched};
-use crate::plan::{Access, Plan, plan_of};
+use crate::plan::{Access, Plan};
+use crate::planning::{Planned, plan_next};
 use crate::syllable_number::behind;
 use crate::waits::first_need;
 use crate::{Failure, Life, Need, Port, Registers, Step};
-use kdf_decode::{BadCode, decode_jump, decode_one, decode_store, decode_two};
 use kdf_journal::Kind;
 use kdf_syllable::Order;
 use kdf_word::Word;
@@ -130,20 +126,15 @@ fn carry_out<P: Port>(registers: &mut Registers, port: &mut P, plan: Plan) -> St
     }
 }
 
-/// Holds the program up, or carries the plan out.
-#[inline(always)]
-fn obey_settled<P: Port>(registers: &mut Registers, port: &mut P, plan: Plan) -> Step
-    requires ran { registers.old.ran < u32.MAX }
-    requires sound { IsSound (P.shows port.old).claims plan }
-    requires settled { IsSettled plan }
-    requires operands { HasOperands registers.old.nest plan }
-    requires room { P.room port.old (try_plan (P.shows port.old) registers.old plan).act }
-    ensures { Obeyed P.acts (try_plan (P.shows port.old) registers.old plan)
-        port.old port.new registers.new result }
+/// Fails, or waits for the program's transfers.
+fn fail_or_wait<P: Port>(registers: &mut Registers, port: &P, kind: Failure) -> Step
+    requires { registers.old.ran < u32.MAX }
+    ensures { Obeyed P.acts (try_plan (P.shows port.now) registers.old (Plan.Fail kind))
+        port.now port.now registers.new result }
 {
-    match first_need(port, &plan) {
+    match first_need(port, &Plan::Fail(kind)) {
         Some(need) => Step::Held(need),
-        None => carry_out(registers, port, plan),
+        None => fail(registers, kind),
     }
 }
 
@@ -162,7 +153,7 @@ fn obey_label<P: Port>(registers: &mut Registers, port: &mut P, label: Word) -> 
             count(registers);
             Step::Done
         }
-        None => obey_settled(registers, port, Plan::Fail(Failure::Claim)),
+        None => fail_or_wait(registers, port, Failure::Claim),
     }
 }
 
@@ -177,7 +168,7 @@ fn obey_pool<P: Port>(registers: &mut Registers, port: &mut P, kind: Kind) -> St
         port.old port.new registers.new result }
 {
     if !port.may_take(kind) {
-        return obey_settled(registers, port, Plan::Fail(Failure::Claim));
+        return fail_or_wait(registers, port, Failure::Claim);
     }
     if !port.pool_free(kind) {
         return Step::Held(Need::Pool(kind));
@@ -204,33 +195,15 @@ fn obey_kind<P: Port>(registers: &mut Registers, port: &mut P, kind: Kind) -> St
     }
 }
 
-/// Obeys a plan.
-#[inline(always)]
-fn obey_plan<P: Port>(registers: &mut Registers, port: &mut P, plan: Plan) -> Step
-    requires ran { registers.old.ran < u32.MAX }
-    requires sound { IsSound (P.shows port.old).claims plan }
-    requires operands { HasOperands registers.old.nest plan }
-    requires room { P.room port.old (try_plan (P.shows port.old) registers.old plan).act }
-    ensures { Obeyed P.acts (try_plan (P.shows port.old) registers.old plan)
-        port.old port.new registers.new result }
-{
-    match plan {
-        Plan::ClaimLabel { label } => obey_label(registers, port, label),
-        Plan::ClaimKind { kind } => obey_kind(registers, port, kind),
-        _ => obey_settled(registers, port, plan),
-    }
-}
-
 /// Obeys an order that changes registers alone.
 #[inline(always)]
-fn obey_change<P: Port>(registers: &mut Registers, port: &mut P, order: Order) -> Step
+fn obey_change<P: Port>(registers: &mut Registers, port: &P, order: Order) -> Step
     requires live { registers.old.state ≡ Life.Live }
     requires ran { registers.old.ran < u32.MAX }
     requires order { IsOrder order }
     requires change { IsChange order }
-    requires room { P.room port.old (try_change (P.shows port.old) registers.old order).act }
-    ensures { Obeyed P.acts (try_change (P.shows port.old) registers.old order)
-        port.old port.new registers.new result }
+    ensures { Obeyed P.acts (try_change (P.shows port.now) registers.old order)
+        port.now port.now registers.new result }
 {
     let ran = registers.ran;
     match change(registers, order) {
@@ -239,93 +212,26 @@ fn obey_change<P: Port>(registers: &mut Registers, port: &mut P, order: Order) -
             registers.state = Life::Live;
             Step::Done
         }
-        Err(kind) => obey_plan(registers, port, Plan::Fail(kind)),
+        Err(kind) => fail_or_wait(registers, port, kind),
     }
 }
 
-/// Obeys an order that was fetched.
+/// Obeys an order as it is planned.
 #[inline(always)]
-fn obey_order<P: Port>(registers: &mut Registers, port: &mut P, order: Order) -> Step
+pub fn obey_planned<P: Port>(registers: &mut Registers, port: &mut P, planned: Planned) -> Step
     requires live { registers.old.state ≡ Life.Live }
     requires ran { registers.old.ran < u32.MAX }
-    requires order { IsOrder order }
-    requires room { P.room port.old (try_order (P.shows port.old) registers.old order).act }
-    ensures { Obeyed P.acts (try_order (P.shows port.old) registers.old order)
+    requires can { CanObey (P.shows port.old) registers.old planned }
+    requires room { P.room port.old (planned_outcome (P.shows port.old) registers.old planned).act }
+    ensures { Obeyed P.acts (planned_outcome (P.shows port.old) registers.old planned)
         port.old port.new registers.new result }
 {
-    match plan_of(registers, port, order) {
-        Some(plan) => obey_plan(registers, port, plan),
-        None => obey_change(registers, port, order),
-    }
-}
-
-/// Obeys an order that was decoded, or fails where there is none.
-#[inline(always)]
-fn obey_decoded<P: Port>(
-    registers: &mut Registers,
-    port: &mut P,
-    decoded: Result<Order, BadCode>,
-) -> Step
-    requires live { registers.old.state ≡ Life.Live }
-    requires ran { registers.old.ran < u32.MAX }
-    requires order { IfOk decoded (λ o. IsOrder o) }
-    requires room { P.room port.old
-        (try_decoded (P.shows port.old) registers.old (result_ok decoded)).act }
-    ensures { Obeyed P.acts (try_decoded (P.shows port.old) registers.old (result_ok decoded))
-        port.old port.new registers.new result }
-{
-    match decoded {
-        Ok(order) => obey_order(registers, port, order),
-        Err(_) => obey_plan(registers, port, Plan::Fail(Failure::Liv)),
-    }
-}
-
-/// Obeys the order that three syllables begin with, class by class.
-#[inline(always)]
-fn obey_spelt<P: Port>(
-    registers: &mut Registers,
-    port: &mut P,
-    first: u8,
-    second: u8,
-    third: u8,
-) -> Step
-    requires live { registers.old.state ≡ Life.Live }
-    requires ran { registers.old.ran < u32.MAX }
-    requires room { P.room port.old
-        (try_decoded (P.shows port.old) registers.old (first_decoded (first ∷ second ∷ third ∷ []))).act }
-    ensures { Obeyed P.acts
-        (try_decoded (P.shows port.old) registers.old (first_decoded (first ∷ second ∷ third ∷ [])))
-        port.old port.new registers.new result }
-{
-    match first {
-        0x00..=0x3f => obey_decoded(registers, port, decode_one(first)),
-        0x40..=0x7f => obey_decoded(registers, port, decode_two(first, second)),
-        0x80..=0xbf => obey_decoded(registers, port, decode_jump(first, second, third)),
-        0xc0..=0xff => obey_decoded(registers, port, decode_store(first, second, third)),
-    }
-}
-
-/// Obeys the next order of a live program, which was fetched, or answers what holds it up and changes nothing.
-#[inline(always)]
-pub fn obey_fetched<P: Port>(registers: &mut Registers, port: &mut P, fetched: Fetched) -> Step
-    requires live { registers.old.state ≡ Life.Live }
-    requires ran { registers.old.ran < u32.MAX }
-    requires fetched { IsFetchedAt (P.shows port.old) registers.old.at fetched }
-    requires room { P.room port.old (outcome (P.shows port.old) registers.old).act }
-    ensures step { result ≡ (outcome (P.shows port.old) registers.old).step }
-    ensures registers { registers.new ≡ (outcome (P.shows port.old) registers.old).registers }
-    ensures acted { P.acts port.old (outcome (P.shows port.old) registers.old).act port.new }
-    ensures unchanged { (outcome (P.shows port.old) registers.old).act ≡ Nothing
-        → port.new ≡ port.old }
-{
-    match fetched {
-        Fetched::Held(group) => Step::Held(Need::Group(group)),
-        Fetched::Bad => obey_plan(registers, port, Plan::Fail(Failure::Liv)),
-        Fetched::Spelt {
-            first,
-            second,
-            third,
-        } => obey_spelt(registers, port, first, second, third),
+    match planned {
+        Planned::Held(need) => Step::Held(need),
+        Planned::Change(order) => obey_change(registers, port, order),
+        Planned::Label(label) => obey_label(registers, port, label),
+        Planned::Kind(kind) => obey_kind(registers, port, kind),
+        Planned::Act(plan) => carry_out(registers, port, plan),
     }
 }
 
@@ -340,6 +246,6 @@ pub fn obey<P: Port>(registers: &mut Registers, port: &mut P) -> Step
     ensures unchanged { (outcome (P.shows port.old) registers.old).act ≡ Nothing
         → port.new ≡ port.old }
 {
-    let fetched = fetch_order(port, registers.at);
-    obey_fetched(registers, port, fetched)
+    let planned = plan_next(registers, port);
+    obey_planned(registers, port, planned)
 }

@@ -1,16 +1,15 @@
 //! Memory, taken before an order is obeyed.
 ghost use Rattle.std.specs.Prelude.{◌≡◌, ◌<◌, IfNone, IfOk, IfSome, OnOk, OnErr};
-ghost use Rattle.kdf_processor.specs.Ahead.{IsAhead};
 ghost use Rattle.kdf_processor.specs.Buffered.{Agrees};
-ghost use Rattle.kdf_processor.specs.Effect.{Act};
-ghost use Rattle.kdf_processor.specs.Fetch.{IsFetchedAt};
 ghost use Rattle.kdf_processor.specs.Outcome.{outcome};
+ghost use Rattle.kdf_processor.specs.Plan.{CanObey, IsSettled, done_plan, planned_outcome};
 ghost use Rattle.kdf_processor.specs.Room.{WithRoom};
-ghost use Rattle.kdf_processor.specs.declared.fetch.Fetched.TheVariants.{Spelt};
+ghost use Rattle.kdf_processor.specs.View.{View};
+ghost use Rattle.kdf_processor.specs.declared.registers.Registers.{Registers};
 
-use crate::fetch::{Fetched, fetch_order};
-use crate::look::{Ahead, look_ahead, may_want_memory};
-use crate::obeying::obey_fetched;
+use crate::obeying::obey_planned;
+use crate::plan::{Beginning, Plan};
+use crate::planning::{Planned, plan_next};
 use crate::quick::obey_quickly;
 use crate::{Buffer, Life, Registers, Reserve, Step};
 use std::alloc::AllocError;
@@ -107,87 +106,46 @@ fn obey_any<P: Reserve>(registers: &mut Registers, port: &mut P) -> Result<Step,
         (outcome (P.shows port.old) registers.old) port.old port.new registers.new step) }
     ensures err { OnErr result ((registers.new ≡ registers.old) × P.keeps port.old port.new) }
 {
-    let fetched = fetch_order(port, registers.at);
-    make_room(registers, port, fetched)?;
-    let step = obey_fetched(registers, port, fetched);
+    let planned = plan_next(registers, port);
+    reserve_for(port, &planned)?;
+    let step = obey_planned(registers, port, planned);
     Ok(step)
 }
 
-/// Takes the memory that the next order wants, which was fetched.
+/// Takes the memory that an order wants, as it is planned.
 #[inline(always)]
-fn make_room<P: Reserve>(
-    registers: &Registers,
-    port: &mut P,
-    fetched: Fetched,
-) -> Result<(), AllocError>
+fn reserve_for<P: Reserve>(port: &mut P, planned: &Planned) -> Result<(), AllocError>
     requires ready { P.ready port.old }
-    requires fetched { IsFetchedAt (P.shows port.old) registers.now.at fetched }
     ensures keeps { P.keeps port.old port.new }
     ensures shows { P.shows port.new ≡ P.shows port.old }
-    ensures room { OnOk result (P.room port.new (outcome (P.shows port.old) registers.now).act) }
+    ensures room { OnOk result ((v : View) (r : Registers) → CanObey v r planned.now
+        → P.room port.new (planned_outcome v r planned.now).act) }
 {
-    match fetched {
-        Fetched::Spelt {
-            first,
-            second,
-            third,
-        } => make_room_for(registers, port, first, second, third),
-        Fetched::Bad => Ok(()),
-        Fetched::Held(_) => Ok(()),
+    match *planned {
+        Planned::Act(plan) => reserve_plan(port, plan),
+        Planned::Kind(_) => port.reserve_stint(),
+        Planned::Held(_) | Planned::Change(_) | Planned::Label(_) => Ok(()),
     }
 }
 
-/// Takes the memory that the order wants that three syllables begin with.
+/// Takes the memory that a settled plan wants.
 #[inline(always)]
-fn make_room_for<P: Reserve>(
-    registers: &Registers,
-    port: &mut P,
-    first: u8,
-    second: u8,
-    third: u8,
-) -> Result<(), AllocError>
-    requires ready { P.ready port.old }
-    requires fetched { IsFetchedAt (P.shows port.old) registers.now.at (Spelt first second third) }
-    ensures keeps { P.keeps port.old port.new }
-    ensures shows { P.shows port.new ≡ P.shows port.old }
-    ensures room { OnOk result (P.room port.new (outcome (P.shows port.old) registers.now).act) }
-{
-    if may_want_memory(first, second, third) {
-        take_memory(registers, port)
-    } else {
-        Ok(())
-    }
-}
-
-/// Takes the memory that the next order wants. Few orders want any: this stays out of the way of the others.
-#[inline(never)]
-fn take_memory<P: Reserve>(registers: &Registers, port: &mut P) -> Result<(), AllocError>
+fn reserve_plan<P: Reserve>(port: &mut P, plan: Plan) -> Result<(), AllocError>
     requires ready { P.ready port.old }
     ensures keeps { P.keeps port.old port.new }
     ensures shows { P.shows port.new ≡ P.shows port.old }
-    ensures room { OnOk result (P.room port.new (outcome (P.shows port.old) registers.now).act) }
+    ensures room { OnOk result ((v : View) (r : Registers) → IsSettled plan → P.room port.new (done_plan v r plan).act) }
 {
-    let ahead = look_ahead(registers, port);
-    take_ahead(port, ahead)?;
-    Ok(())
-}
-
-/// Takes the memory for what is ahead.
-fn take_ahead<P: Reserve>(port: &mut P, ahead: Ahead) -> Result<(), AllocError>
-    requires ready { P.ready port.old }
-    ensures keeps { P.keeps port.old port.new }
-    ensures shows { P.shows port.new ≡ P.shows port.old }
-    ensures room { OnOk result ((act : Act) → IsAhead act ahead → P.room port.new act) }
-{
-    match ahead {
-        Ahead::Starts {
-            device,
-            order,
-            first,
-            last,
-        } => port.reserve_transfer(device, order, first, last),
-        Ahead::Spools { first, last, .. } => port.reserve_text(first, last),
-        Ahead::Takes => port.reserve_stint(),
-        Ahead::Asks(_) | Ahead::Else => Ok(()),
+    match plan {
+        Plan::Begin(
+            Beginning {
+                device,
+                order,
+                first,
+                last,
+            },
+        ) => port.reserve_transfer(device, order, first, last),
+        Plan::Spool { first, last, .. } => port.reserve_text(first, last),
+        _ => Ok(()),
     }
 }
