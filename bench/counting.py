@@ -30,6 +30,9 @@ ROUNDS = 9
 # A run has these variables and no others, so that it counts the same everywhere.
 VARIABLES = {"LC_ALL": "C", "PATH": os.environ.get("PATH", "")}
 
+# How a text ends that is whole: a report or another text of the program, a snapshot, or facts.
+ENDS = (b"\nENDREPORT\n", b"\nENDSNAPSHOT\n", b'\\nENDREPORT\\n"}\n')
+
 # With this word programs are timed, and nothing is counted.
 SECONDS = "--seconds"
 
@@ -67,6 +70,17 @@ class Case(NamedTuple):
     def bar(self, figure: float) -> float:
         """The most that a count may be, by the figure that is written down."""
         return ROOM * figure
+
+
+class Told(Case):
+    """The same of the facts of a run. Another program tells them, which stands beside the one that is counted, or which the variable KDF_TOLD names."""
+
+    def count(self, program: str) -> float:
+        """The instructions of one."""
+        told = os.environ.get("KDF_TOLD") or str(pathlib.Path(program).parents[2] / "kdf_told" / "out" / "kdf_told")
+        if not os.access(told, os.X_OK):
+            sys.exit(f"{told} isn't built, which tells facts: rt run kdf_told builds it")
+        return Case(self.one, ("run",), self.job, self.many).count(told)
 
 
 class Peak(NamedTuple):
@@ -109,7 +123,7 @@ def file_of(text: bytes) -> BinaryIO:
 
 def has_ended(words: Sequence[str], status: int, expected: int, text: bytes, more: bytes = b"") -> None:
     """Raises `Unexpected` unless a run had this status and wrote all that it should; with the end of what else it wrote."""
-    if status != expected or status == 0 and not text.endswith((b"\nENDREPORT\n", b"\nENDSNAPSHOT\n")):
+    if status != expected or status == 0 and not text.endswith(ENDS):
         raise Unexpected(f"a run by `{' '.join(words)}` ended with status {status}, {text[-80:]!r} and {more[-160:]!r}")
 
 

@@ -24,47 +24,43 @@ two_json front p middle n = number front p (middle ++ decimal n)
 -- an entry that tells how a program failed, or for which kind of device it waits
 abbrev pub kind_json : List ℕ → ℕ → List ℕ → List ℕ
 kind_json name p kind =
-    codes "\"" ++ name ++ codes "\",\"slot\":" ++ decimal p ++ codes ",\"kind\":\"" ++ kind ++ codes "\""
+    codes ",\"entry\":\"" ++ name ++ codes "\",\"slot\":" ++ decimal p ++ codes ",\"kind\":\"" ++ kind ++ codes "\""
 
 -- the begin of a transfer
 abbrev pub start_json : ℕ → ℕ → ℕ → List ℕ
 start_json p d k =
-    number (codes "\"START\",\"slot\":") p (number (codes ",\"device\":") d (codes ",\"order\":" ++ decimal k))
+    number (codes ",\"entry\":\"START\",\"slot\":") p (number (codes ",\"device\":") d (codes ",\"order\":" ++ decimal k))
 
 -- the name of an entry, and its members
 abbrev pub entry_json : Entry → List ℕ
-entry_json (Ran p n) = two_json (codes "\"RAN\",\"slot\":") p (codes ",\"orders\":") n
+entry_json (Ran p n) = two_json (codes ",\"entry\":\"RAN\",\"slot\":") p (codes ",\"orders\":") n
 entry_json (Start p d k) = start_json p d k
-entry_json (Answer p v) = two_json (codes "\"ANSWER\",\"slot\":") p (codes ",\"answer\":") v
-entry_json (Take p d) = two_json (codes "\"TAKE\",\"slot\":") p (codes ",\"device\":") d
-entry_json (Give p d) = two_json (codes "\"GIVE\",\"slot\":") p (codes ",\"device\":") d
+entry_json (Answer p v) = two_json (codes ",\"entry\":\"ANSWER\",\"slot\":") p (codes ",\"answer\":") v
+entry_json (Take p d) = two_json (codes ",\"entry\":\"TAKE\",\"slot\":") p (codes ",\"device\":") d
+entry_json (Give p d) = two_json (codes ",\"entry\":\"GIVE\",\"slot\":") p (codes ",\"device\":") d
 entry_json (Fail p kind) = kind_json (codes "FAIL") p (name_of kind)
-entry_json (Ended p) = one_json (codes "\"ENDED\",\"slot\":") p
-entry_json (Lov p group) = two_json (codes "\"LOV\",\"slot\":") p (codes ",\"group\":") group
-entry_json (Busy p d) = two_json (codes "\"BUSY\",\"slot\":") p (codes ",\"device\":") d
+entry_json (Ended p) = one_json (codes ",\"entry\":\"ENDED\",\"slot\":") p
+entry_json (Lov p group) = two_json (codes ",\"entry\":\"LOV\",\"slot\":") p (codes ",\"group\":") group
+entry_json (Busy p d) = two_json (codes ",\"entry\":\"BUSY\",\"slot\":") p (codes ",\"device\":") d
 entry_json (Wait p kind) = kind_json (codes "WAIT") p (kind_name kind)
-entry_json (Idle n) = one_json (codes "\"IDLE\",\"calls\":") n
-entry_json (Move d n) = two_json (codes "\"MOVE\",\"device\":") d (codes ",\"words\":") n
-entry_json (End d) = one_json (codes "\"END\",\"device\":") d
-entry_json (Clock t) = one_json (codes "\"CLOCK\",\"time\":") t
-entry_json (Swap p q) = two_json (codes "\"SWAP\",\"slot\":") p (codes ",\"other\":") q
+entry_json (Idle n) = one_json (codes ",\"entry\":\"IDLE\",\"calls\":") n
+entry_json (Move d n) = two_json (codes ",\"entry\":\"MOVE\",\"device\":") d (codes ",\"words\":") n
+entry_json (End d) = one_json (codes ",\"entry\":\"END\",\"device\":") d
+entry_json (Clock t) = one_json (codes ",\"entry\":\"CLOCK\",\"time\":") t
+entry_json (Swap p q) = two_json (codes ",\"entry\":\"SWAP\",\"slot\":") p (codes ",\"other\":") q
 
--- what stands before an entry: how many calls were before it
-unfoldable pub call_json : ℕ → List ℕ
-call_json call = number (codes "{\"call\":") call (codes ",\"entry\":")
-
--- a moment: how many calls were before it, and its entry
-abbrev pub moment_json : Moment → List ℕ
-moment_json m = call_json m.call ++ entry_json m.entry ++ codes "}"
+-- a moment: how many calls were before it, after what stands before that, and its entry
+abbrev pub moment_json : List ℕ → Moment → List ℕ
+moment_json front m = front ++ decimal m.call ++ entry_json m.entry ++ codes "}"
 
 -- moments after others
 abbrev pub rest_json : List Moment → List ℕ
-rest_json ms = flat_map (λ m. codes ",\n" ++ moment_json m) ms
+rest_json ms = flat_map (moment_json (codes ",\n{\"call\":")) ms
 
 -- the moments of a run, with a comma between each two
 abbrev pub moments_json : List Moment → List ℕ
 moments_json [] = []
-moments_json (m ∷ ms) = moment_json m ++ rest_json ms
+moments_json (m ∷ ms) = moment_json (codes "{\"call\":") m ++ rest_json ms
 
 -- how many calls a program ran and was ready, how many it was held, by what, and how many it was over
 unfoldable pub times_json : ℕ → ℕ → List ℕ

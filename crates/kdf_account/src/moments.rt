@@ -1,6 +1,6 @@
 //! The moments of a run as JSON.
 ghost use Rattle.std.specs.Prelude.{◌≡◌, ◌++◌, OnOk, decimal, string_bytes};
-ghost use Rattle.kdf_account.specs.Json.{call_json, entry_json, kind_json, moment_json, moments_json, number, one_json, rest_json, two_json};
+ghost use Rattle.kdf_account.specs.Json.{entry_json, kind_json, moment_json, moments_json, number, one_json, rest_json, two_json};
 
 use crate::moment::Moment;
 use kdf_journal::Entry;
@@ -14,7 +14,7 @@ pub fn write_moments(out: &mut String, moments: &[Moment]) -> Result<(), AllocEr
     match moments {
         [] => Ok(()),
         [first, rest @ ..] => {
-            write_moment(out, first)?;
+            write_moment(out, "{\"call\":", first)?;
             write_rest(out, rest)
         }
     }
@@ -25,25 +25,19 @@ fn write_rest(out: &mut String, moments: &[Moment]) -> Result<(), AllocError>
     ensures { OnOk result (string_bytes out.new ≡ string_bytes out.old ++ rest_json moments.now) }
 {
     for moment in moments {
-        out.push_str(",\n")?;
-        write_moment(out, moment)?;
+        write_moment(out, ",\n{\"call\":", moment)?;
     }
     Ok(())
 }
 
-/// Writes a moment: the number of calls before it, and its entry.
-fn write_moment(out: &mut String, moment: &Moment) -> Result<(), AllocError>
-    ensures { OnOk result (string_bytes out.new ≡ string_bytes out.old ++ moment_json moment.now) }
+/// Writes a moment: the number of calls before it, after what stands before that, and its entry.
+#[inline(always)]
+fn write_moment(out: &mut String, front: &str, moment: &Moment) -> Result<(), AllocError>
+    ensures { OnOk result (string_bytes out.new ≡ string_bytes out.old ++ moment_json front.now moment.now) }
 {
-    write_call(out, moment.call)?;
+    write_after(out, front, moment.call.into())?;
     write_entry(out, &moment.entry)?;
     out.push_str("}")
-}
-
-fn write_call(out: &mut String, call: u32) -> Result<(), AllocError>
-    ensures { OnOk result (string_bytes out.new ≡ string_bytes out.old ++ call_json call) }
-{
-    write_between(out, "{\"call\":", call.into(), ",\"entry\":")
 }
 
 /// Writes the name of an entry and its members.
@@ -51,11 +45,17 @@ fn write_entry(out: &mut String, entry: &Entry) -> Result<(), AllocError>
     ensures { OnOk result (string_bytes out.new ≡ string_bytes out.old ++ entry_json entry.now) }
 {
     match *entry {
-        Entry::Ran { p, n } => write_two(out, "\"RAN\",\"slot\":", p, ",\"orders\":", n.into()),
+        Entry::Ran { p, n } => write_two(
+            out,
+            ",\"entry\":\"RAN\",\"slot\":",
+            p,
+            ",\"orders\":",
+            n.into(),
+        ),
         Entry::Start { p, d, k } => {
             write_three(
                 out,
-                "\"START\",\"slot\":",
+                ",\"entry\":\"START\",\"slot\":",
                 p,
                 ",\"device\":",
                 d,
@@ -63,33 +63,68 @@ fn write_entry(out: &mut String, entry: &Entry) -> Result<(), AllocError>
                 k,
             )
         }
-        Entry::Answer { p, v } => write_two(out, "\"ANSWER\",\"slot\":", p, ",\"answer\":", v),
-        Entry::Take { p, d } => write_two(out, "\"TAKE\",\"slot\":", p, ",\"device\":", d.into()),
-        Entry::Give { p, d } => write_two(out, "\"GIVE\",\"slot\":", p, ",\"device\":", d.into()),
+        Entry::Answer { p, v } => write_two(
+            out,
+            ",\"entry\":\"ANSWER\",\"slot\":",
+            p,
+            ",\"answer\":",
+            v,
+        ),
+        Entry::Take { p, d } => write_two(
+            out,
+            ",\"entry\":\"TAKE\",\"slot\":",
+            p,
+            ",\"device\":",
+            d.into(),
+        ),
+        Entry::Give { p, d } => write_two(
+            out,
+            ",\"entry\":\"GIVE\",\"slot\":",
+            p,
+            ",\"device\":",
+            d.into(),
+        ),
         Entry::Fail { p, kind } => write_kind(out, "FAIL", p, kind.name()),
-        Entry::Ended { p } => write_one(out, "\"ENDED\",\"slot\":", p.into()),
+        Entry::Ended { p } => write_one(out, ",\"entry\":\"ENDED\",\"slot\":", p.into()),
         Entry::Lov { p, group } => {
-            write_two(out, "\"LOV\",\"slot\":", p, ",\"group\":", group.into())
+            write_two(
+                out,
+                ",\"entry\":\"LOV\",\"slot\":",
+                p,
+                ",\"group\":",
+                group.into(),
+            )
         }
-        Entry::Busy { p, d } => write_two(out, "\"BUSY\",\"slot\":", p, ",\"device\":", d.into()),
+        Entry::Busy { p, d } => write_two(
+            out,
+            ",\"entry\":\"BUSY\",\"slot\":",
+            p,
+            ",\"device\":",
+            d.into(),
+        ),
         Entry::Wait { p, kind } => write_kind(out, "WAIT", p, kind.name()),
-        Entry::Idle { n } => write_one(out, "\"IDLE\",\"calls\":", n.into()),
-        Entry::Move { d, n } => write_two(out, "\"MOVE\",\"device\":", d, ",\"words\":", n.into()),
-        Entry::End { d } => write_one(out, "\"END\",\"device\":", d.into()),
-        Entry::Clock { t } => write_one(out, "\"CLOCK\",\"time\":", t),
-        Entry::Swap { p, q } => write_two(out, "\"SWAP\",\"slot\":", p, ",\"other\":", q.into()),
+        Entry::Idle { n } => write_one(out, ",\"entry\":\"IDLE\",\"calls\":", n.into()),
+        Entry::Move { d, n } => write_two(
+            out,
+            ",\"entry\":\"MOVE\",\"device\":",
+            d,
+            ",\"words\":",
+            n.into(),
+        ),
+        Entry::End { d } => write_one(out, ",\"entry\":\"END\",\"device\":", d.into()),
+        Entry::Clock { t } => write_one(out, ",\"entry\":\"CLOCK\",\"time\":", t),
+        Entry::Swap { p, q } => write_two(
+            out,
+            ",\"entry\":\"SWAP\",\"slot\":",
+            p,
+            ",\"other\":",
+            q.into(),
+        ),
     }
 }
 
-/// Writes a number between what stands before it and what stands after it.
-fn write_between(out: &mut String, front: &str, n: u64, rest: &str) -> Result<(), AllocError>
-    ensures { OnOk result (string_bytes out.new ≡ string_bytes out.old ++ number front.now n rest.now) }
-{
-    write_after(out, front, n)?;
-    out.push_str(rest)
-}
-
 /// Writes a number after what stands before it.
+#[inline(always)]
 fn write_one(out: &mut String, front: &str, n: u64) -> Result<(), AllocError>
     ensures { OnOk result (string_bytes out.new ≡ string_bytes out.old ++ one_json front.now n) }
 {
@@ -97,6 +132,7 @@ fn write_one(out: &mut String, front: &str, n: u64) -> Result<(), AllocError>
 }
 
 /// Writes two numbers, each after what stands before it.
+#[inline(always)]
 fn write_two(
     out: &mut String,
     front: &str,
@@ -112,6 +148,7 @@ fn write_two(
 }
 
 /// Writes three numbers, each after what stands before it.
+#[inline(always)]
 fn write_three(
     out: &mut String,
     front: &str,
@@ -132,7 +169,7 @@ fn write_three(
 fn write_kind(out: &mut String, name: &str, p: u8, kind: &str) -> Result<(), AllocError>
     ensures { OnOk result (string_bytes out.new ≡ string_bytes out.old ++ kind_json name.now p kind.now) }
 {
-    out.push_str("\"")?;
+    out.push_str(",\"entry\":\"")?;
     out.push_str(name)?;
     write_after(out, "\",\"slot\":", p.into())?;
     out.push_str(",\"kind\":\"")?;

@@ -7,19 +7,52 @@ const DIGITS: [char; 16] = [
     '0', '1', '2', '3', '4', '5', '6', '7', '8', '9', 'a', 'b', 'c', 'd', 'e', 'f',
 ];
 
+/// So many bytes of a text in quotes are written at once.
+const PIECE: usize = 256;
+
+/// A piece with so many bytes may lack room for one more and its sign.
+const FULL: usize = 254;
+
 /// Writes bytes as a text in quotes. A byte that isn't a printable character of ASCII is written as the character of its number.
 pub fn write_text(out: &mut String, bytes: &[u8]) -> Result<(), AllocError> {
+    let mut piece = [0u8; PIECE];
+    let mut length = 0;
     out.push('"')?;
-    let mut from = 0;
-    for (i, byte) in bytes.iter().enumerate() {
-        if !is_plain(*byte) {
-            write_plain(out, between(bytes, from, i))?;
+    for byte in bytes {
+        if length >= FULL {
+            write_plain(out, between(&piece, 0, length))?;
+            length = 0;
+        }
+        if is_plain(*byte) {
+            length = put(&mut piece, length, *byte);
+        } else if *byte == b'\n' {
+            length = put_line_end(&mut piece, length);
+        } else {
+            write_plain(out, between(&piece, 0, length))?;
             write_byte(out, *byte)?;
-            from = i.saturating_add(1);
+            length = 0;
         }
     }
-    write_plain(out, between(bytes, from, bytes.len()))?;
+    write_plain(out, between(&piece, 0, length))?;
     out.push('"')
+}
+
+/// Puts a byte into a piece after so many, if it has room, and answers how many there are then.
+#[inline(always)]
+fn put(piece: &mut [u8; PIECE], length: usize, byte: u8) -> usize {
+    if length < PIECE {
+        piece[length] = byte;
+        length + 1
+    } else {
+        length
+    }
+}
+
+/// Puts the end of a line into a piece.
+#[inline(always)]
+fn put_line_end(piece: &mut [u8; PIECE], length: usize) -> usize {
+    let length = put(piece, length, b'\\');
+    put(piece, length, b'n')
 }
 
 /// Whether a byte stands for itself in a text in quotes. Most are digits and capitals.

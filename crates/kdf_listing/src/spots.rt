@@ -1,6 +1,6 @@
 //! Where a statement stands: in the job, in the store and in its deck.
 
-use crate::layout::Layout;
+use crate::layout::{Layout, Row};
 use kdf_json::{Spot, write_after};
 use std::alloc::AllocError;
 
@@ -27,20 +27,23 @@ pub fn write_order(
     let Some(at) = at else {
         return out.push_str(",\"at\":null,\"statement\":null");
     };
-    out.push_str(",\"at\":")?;
-    write_at(out, u64::from(at))?;
-    out.push_str(",\"statement\":")?;
     let row = match layout {
         Some(layout) => layout.order_at(at),
         None => None,
     };
+    write_after(out, ",\"at\":[", u64::from(at / 6))?;
+    write_after(out, ",", u64::from(at % 6))?;
     match row {
-        Some(row) => {
-            write_after(out, "{\"offset\":", row.place.into())?;
-            out.push(',')?;
-            write_spot(out, row.spot)?;
-            out.push_str("}")
-        }
-        None => out.push_str("null"),
+        Some(row) => write_statement(out, &row),
+        None => out.push_str("],\"statement\":null"),
     }
+}
+
+/// Writes where the statement of an order stands in the deck, after where it stands in the store.
+fn write_statement(out: &mut String, row: &Row) -> Result<(), AllocError> {
+    let Spot { line, column } = row.spot;
+    write_after(out, "],\"statement\":{\"offset\":", row.place.into())?;
+    write_after(out, ",\"line\":", line.into())?;
+    write_after(out, ",\"column\":", column.into())?;
+    out.push('}')
 }

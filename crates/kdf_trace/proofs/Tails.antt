@@ -1,16 +1,17 @@
 -- A schedule whose last calls are made one by one.
 use Rattle.std.proofs.Common.{◌≡◌, ℕ, ◌+◌, ◌-◌, ◌<◌, ◌≤◌, List, [], ◌∷◌, ◌++◌, sym, ◌∙◌, ap, subst, arith, append_assoc}
-use Rattle.std.specs.Prelude.{replicate}
+use Rattle.std.specs.Prelude.{drop, length, replicate, sum_by, take}
 use Rattle.std.specs.List.{All}
-use Rattle.std.proofs.lemmas.List.{replicate-append-replicate}
-use Rattle.std.proofs.lemmas.List.Elements.{All-cons, All-head, All-nil, All-push, All-tail}
+use Rattle.std.proofs.lemmas.List.{drop-drop, drop-take, length-take-le, replicate-append-replicate, take-append-drop, take-take}
+use Rattle.std.proofs.lemmas.List.Sums.{sum_by-take-drop}
+use Rattle.std.proofs.lemmas.List.Elements.{All-cons, All-head, All-nil, All-push, All-tail, All-take}
 use Rattle.kdf_journal.specs.declared.entry.Entry.{Entry}
 use Rattle.kdf_schedule.specs.declared.event.Event.{Event}
 use Rattle.kdf_schedule.specs.declared.event.Event.TheVariants.{Orders, Move, End, Clock, Swap}
 use Rattle.kdf_schedule.specs.Calls.{AnOrder, calls_made, order_count}
 use Rattle.kdf_schedule.specs.Events.{IsInRange}
 use Rattle.kdf_schedule.proofs.Schedules.{calls_made-append, calls_made-one}
-use Rattle.kdf_theory.specs.Follows.{IsRising, IsWhole}
+use Rattle.kdf_theory.specs.Follows.{IsRising, IsWhole, entries_in}
 use Rattle.kdf_theory.specs.Served.{IsJournalFor}
 use Rattle.kdf_transfer.specs.Slots.{Slot}
 
@@ -60,6 +61,10 @@ pub all_front : (es fs : List Event) → All IsInRange (es ++ fs) → All IsInRa
 all_front [] fs all = All-nil IsInRange
 all_front (e ∷ es) fs all = All-cons IsInRange e es (All-head IsInRange e (es ++ fs) all) (all_front es fs (All-tail IsInRange e (es ++ fs) all))
 
+pub count_both : (es fs : List Event) → order_count (es ++ fs) ≡ order_count es + order_count fs
+count_both [] fs = omega arith
+count_both (e ∷ es) fs = omega (arith, count_both es fs)
+
 -- the events before those calls, and with one call more
 module _ (front : List Event) (n : ℕ) (few : order_count (front ++ Orders n ∷ []) ≤ 20000000) (more : 156 < n)
     (rises : IsRising 0 (front ++ Orders n ∷ [])) (all : All IsInRange (front ++ Orders n ∷ [])) where
@@ -103,3 +108,44 @@ module _ (front : List Event) (n : ℕ) (few : order_count (front ++ Orders n �
       → calls_made es ≡ calls_made (front ++ Orders n ∷ [])
   all_calls es i end calls =
       calls ∙ (ap (λ m. calls_made front ++ replicate m AnOrder) (omega (arith, end, more)) ∙ sym (calls_push front n))
+
+-- the first events of a schedule
+module _ (es : List Event) (i : ℕ) where
+  pub rises_take : (t : ℕ) → IsRising t es → IsRising t (take i es)
+  rises_take t rises = rises_front t (take i es) (drop i es) (subst (IsRising t) (sym (take-append-drop i es)) rises)
+
+  pub all_take : All IsInRange es → All IsInRange (take i es)
+  all_take = All-take IsInRange i es
+
+  pub few_take : order_count es ≤ 20000000 → order_count (take i es) ≤ 20000000
+  few_take few = omega (arith, count_both (take i es) (drop i es), ap order_count (take-append-drop i es), few)
+
+  pub room_take : (room : ℕ) → sum_by entries_in es ≤ room → sum_by entries_in (take i es) ≤ room
+  room_take room fits = omega (arith, sum_by-take-drop entries_in es i, fits)
+
+  -- and what is left after them
+  pub room_drop : (old new : ℕ) → sum_by entries_in es ≤ old → old ≤ new + sum_by entries_in (take i es) → sum_by entries_in (drop i es) ≤ new
+  room_drop old new fits stays = omega (arith, sum_by-take-drop entries_in es i, fits, stays)
+
+  pub followed_take : (answers : ℕ → ℕ → Type 0) (slots : List Slot) (J : List Entry) → IsJournalFor answers slots (take i es) J
+      → IsJournalFor answers slots (take i (take (i + 1) es)) J
+  followed_take answers slots J = subst (λ xs. IsJournalFor answers slots xs J) (sym (take-take i (i + 1) es (omega arith)))
+
+  pub within_next : i < length es → i ≤ length (take (i + 1) es)
+  within_next lt = omega (arith, length-take-le (i + 1) es (omega (arith, lt)))
+
+  -- the event after them
+  next_event : drop i (take (i + 1) es) ≡ take 1 (drop i es)
+  next_event = drop-take i 1 es
+
+  sum_next : sum_by entries_in (drop i (take (i + 1) es)) + sum_by entries_in (drop (i + 1) es) ≡ sum_by entries_in (drop i es)
+  sum_next =
+      ap (λ xs. sum_by entries_in xs + sum_by entries_in (drop (i + 1) es)) next_event
+      ∙ (ap (λ xs. sum_by entries_in (take 1 (drop i es)) + sum_by entries_in xs) (sym (drop-drop 1 i es)) ∙ sum_by-take-drop entries_in (drop i es) 1)
+
+  pub room_for_next : (room : ℕ) → sum_by entries_in (drop i es) ≤ room → sum_by entries_in (drop i (take (i + 1) es)) ≤ room
+  room_for_next room fits = omega (arith, sum_next, fits)
+
+  pub room_after : (old new : ℕ) → sum_by entries_in (drop i es) ≤ old → old ≤ new + sum_by entries_in (drop i (take (i + 1) es))
+      → sum_by entries_in (drop (i + 1) es) ≤ new
+  room_after old new fits stays = omega (arith, sum_next, fits, stays)

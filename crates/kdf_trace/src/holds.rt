@@ -2,7 +2,7 @@
 
 use crate::retrace::Before;
 use kdf_journal::Kind;
-use kdf_json::{write_after, write_comma, write_decimal, write_number};
+use kdf_json::{write_after, write_comma, write_number};
 use kdf_listing::{Deck, layout_of, write_order};
 use std::alloc::AllocError;
 
@@ -87,7 +87,6 @@ pub fn write_asks(out: &mut String, asks: &[Ask], decks: &[Deck<'_>]) -> Result<
         let at = ask.before.map(|before| before.at);
         write_order(out, at, layout_of(decks, ask.p))?;
         write_operand(out, ask.before)?;
-        out.push_str("}")?;
     }
     Ok(())
 }
@@ -105,24 +104,27 @@ fn write_ask(out: &mut String, ask: &Ask) -> Result<(), AllocError> {
 }
 
 /// Writes whose order an item is of, which of the program's own it is, and how many calls were before it.
+#[inline(always)]
 fn write_event(out: &mut String, p: u8, k: u32, call: u32) -> Result<(), AllocError> {
     write_after(out, "{\"slot\":", p.into())?;
     write_after(out, ",\"order\":", k.into())?;
     write_after(out, ",\"call\":", call.into())
 }
 
-/// Writes the two top words of a nest, each without its sign.
+/// Writes the two top words of a nest, each without its sign, as the last member.
 fn write_operand(out: &mut String, before: Option<Before>) -> Result<(), AllocError> {
-    out.push_str(",\"nest\":[")?;
-    if let Some(before) = before {
-        if let Some(word) = before.top {
-            write_decimal(out, word.bits())?;
-        }
-        if let Some(word) = before.next {
-            write_after(out, ",", word.bits())?;
-        }
+    let (top, next) = match before {
+        Some(before) => (before.top, before.next),
+        None => (None, None),
+    };
+    match top {
+        Some(word) => write_after(out, ",\"nest\":[", word.bits())?,
+        None => out.push_str(",\"nest\":[")?,
     }
-    out.push_str("]")
+    if let Some(word) = next {
+        write_after(out, ",", word.bits())?;
+    }
+    out.push_str("]}")
 }
 
 /// Writes each loan of the pool.

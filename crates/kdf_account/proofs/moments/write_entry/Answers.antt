@@ -38,3 +38,9 @@ returns-in-Swap c = rw c.in-Swap.is (rw c.into-in-Swap.ensures at c.write_two-in
 
 pub returns-in-Start : goal.returns-in-Start
 returns-in-Start c = rw c.in-Start.is c.write_three.ensures
+
+pub returns-in-Fail : goal.returns-in-Fail
+returns-in-Fail c = rw c.in-Fail.is (rw c.name.ensures at c.write_kind.ensures)
+
+pub returns-in-Wait : goal.returns-in-Wait
+returns-in-Wait c = rw c.in-Wait.is (rw c.name-in-Wait.ensures at c.write_kind-in-Wait.ensures)
