@@ -4,6 +4,7 @@ mod Stable
 mod Firsts
 mod Piecewise
 mod Assembled
+mod Thinned
 pub mod Lengths
 pub mod Packed
 mod Listed

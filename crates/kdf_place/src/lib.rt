@@ -26,6 +26,6 @@ mod table;
 mod twice;
 mod words;
 
-pub use assembler::assemble;
+pub use assembler::{assemble, assemble_text};
 pub use image::{Image, Label};
 pub use listings::{listing, listing_absent};

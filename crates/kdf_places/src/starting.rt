@@ -50,42 +50,31 @@ fn put_back(store: &mut Store, lease: Option<Lease>)
 }
 
 /// Begins a transfer on a device that has none.
-fn begin_place(place: Place, start: Start, store: &mut Store, block: Vec<u8>) -> Place
-    requires free { is_flying (spot_of place) ≡ false }
-    requires kind { is_kind (kind_of start.order) (spot_kind (spot_of place)) ≡ true }
-    requires ready { IsReady start.order place }
-    requires dry { ring_in place ≡ [] }
+fn begin_in(place: &mut Place, start: Start, store: &mut Store, block: Vec<u8>)
+    requires free { is_flying (spot_of place.old) ≡ false }
+    requires kind { is_kind (kind_of start.order) (spot_kind (spot_of place.old)) ≡ true }
+    requires ready { IsReady start.order place.old }
+    requires dry { ring_in place.old ≡ [] }
     requires block { block.items ≡ [] }
     requires room { is_output start.order ≡ true
         → 8 * (start.area.last + 1 - start.area.first) ≤ vec_capacity block }
     requires area { has_area start.order ≡ true
         → IsFreeArea store.old start.area.first start.area.last }
-    ensures spot { spot_of result
-        ≡ start_spot start.p start.order start.area.first start.area.last store.old (spot_of place) }
-    ensures ring { ring_in result ≡ [] }
+    ensures spot { spot_of place.new
+        ≡ start_spot start.p start.order start.area.first start.area.last store.old (spot_of place.old) }
+    ensures ring { ring_in place.new ≡ [] }
     ensures store { store.new
         ≡ start_cells start.order start.area.first start.area.last store.old }
 {
-    match place {
+    match mem::replace(place, Place::Absent) {
         Place::Idle { device, ring } => {
             let Start { p, order, area } = start;
             let lease = take_lease(store, order, area);
             let transfer = Transfer::begin(device, order, area, lease, block, ring);
-            Place::Busy { p, transfer }
+            leave(mem::replace(place, Place::Busy { p, transfer }));
         }
-        Place::Absent => Place::Absent,
-        Place::Busy { p, transfer } => Place::Busy { p, transfer },
+        Place::Absent | Place::Busy { .. } => unreachable!(),
     }
-}
-
-/// Puts a place there, and answers the one that was there.
-#[inline(always)]
-fn exchange(places: &mut Vec<Place>, d: usize, place: Place) -> Place
-    requires { d < length places.old.items }
-    ensures was { result ≡ slice_index_or places.old.items d Absent }
-    ensures put { places.new.items ≡ slice_set places.old.items d place }
-{
-    mem::replace(&mut places[d], place)
 }
 
 /// Lets a place go in which there is nothing.
@@ -120,28 +109,26 @@ pub fn start_at(places: &mut Vec<Place>, d: usize, start: Start, store: &mut Sto
     ensures store { store.new
         ≡ start_cells start.order start.area.first start.area.last store.old }
 {
-    let place = exchange(places, d, Place::Absent);
-    let begun = begin_place(place, start, store, block);
-    let absent = exchange(places, d, begun);
-    leave(absent);
+    let place = &mut places[d];
+    begin_in(place, start, store, block);
 }
 
-/// Ends the transfer of a device, if it has one.
-fn end_place(place: Place, store: &mut Store) -> Place
-    requires back { IsBack store.old (last_lease (spot_of place).flight) }
-    requires dry { ring_in place ≡ [] }
-    ensures spot { spot_of result ≡ ended_spot (spot_of place) }
-    ensures ring { ring_in result ≡ [] }
-    ensures store { store.new ≡ back_cells (last_lease (spot_of place).flight) store.old }
+/// Ends the transfer of a device.
+fn end_in(place: &mut Place, store: &mut Store)
+    requires busy { is_flying (spot_of place.old) ≡ true }
+    requires back { IsBack store.old (last_lease (spot_of place.old).flight) }
+    requires dry { ring_in place.old ≡ [] }
+    ensures spot { spot_of place.new ≡ ended_spot (spot_of place.old) }
+    ensures ring { ring_in place.new ≡ [] }
+    ensures store { store.new ≡ back_cells (last_lease (spot_of place.old).flight) store.old }
 {
-    match place {
+    match mem::replace(place, Place::Absent) {
         Place::Busy { p: _, transfer } => {
             let (device, lease, ring) = transfer.end();
             put_back(store, lease);
-            Place::Idle { device, ring }
+            leave(mem::replace(place, Place::Idle { device, ring }));
         }
-        Place::Absent => Place::Absent,
-        Place::Idle { device, ring } => Place::Idle { device, ring },
+        Place::Absent | Place::Idle { .. } => unreachable!(),
     }
 }
 
@@ -168,6 +155,7 @@ pub fn end_at(places: &mut Vec<Place>, d: usize, store: &mut Store)
 #[inline(never)]
 fn end_busy_at(places: &mut Vec<Place>, d: usize, store: &mut Store)
     requires there { d < length places.old.items }
+    requires busy { is_flying (spot_at (map spot_of places.old.items) d) ≡ true }
     requires back { IsBack store.old
         (last_lease (spot_at (map spot_of places.old.items) d).flight) }
     requires dry { AreDry places.old.items }
@@ -178,10 +166,8 @@ fn end_busy_at(places: &mut Vec<Place>, d: usize, store: &mut Store)
     ensures store { store.new
         ≡ back_cells (last_lease (spot_at (map spot_of places.old.items) d).flight) store.old }
 {
-    let place = exchange(places, d, Place::Absent);
-    let ended = end_place(place, store);
-    let absent = exchange(places, d, ended);
-    leave(absent);
+    let place = &mut places[d];
+    end_in(place, store);
 }
 
 /// Moves the next `n` words of the transfer on a device, if it has one.

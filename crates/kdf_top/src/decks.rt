@@ -8,8 +8,8 @@ ghost use Rattle.kdf_top.specs.Deck.{deck_fault, IsDeck, Tells};
 ghost use Rattle.kdf_top.specs.Loaded.{HasImages};
 
 use kdf_job::SlotJob;
-use kdf_place::{Image, assemble};
-use kdf_usercode::{DeckError, DeckFault, read_deck};
+use kdf_place::{Image, assemble_text};
+use kdf_usercode::{DeckError, DeckFault};
 use std::alloc::{AllocFailed, Global};
 
 /// Why a job has no images.
@@ -32,14 +32,12 @@ impl<T: Drop> From<AllocFailed<T>> for DecksError {
 }
 
 /// The image of the deck of a slot, which fits the slot's store, or the deck's first fault.
-#[tactic(auto, unfolding(kdf_place::specs::Assembled::assembled))]
 fn assemble_deck(alloc: Global, slot: &SlotJob) -> Result<Image, DeckError>
     requires { IsDeck slot.now }
     ensures answer { Gives result (assembled slot.now.size slot.now.deck.items) }
     ensures fits { IfOk result (λ image. length image.words.items ≤ slot.now.size) }
 {
-    let deck = read_deck(alloc, &slot.deck)?;
-    assemble(alloc, &deck, slot.size)
+    assemble_text(alloc, &slot.deck, slot.size)
 }
 
 /// The images of the decks, in the order of the slots; or the first slot whose deck has a fault.

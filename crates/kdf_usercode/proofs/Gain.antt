@@ -6,6 +6,7 @@ use Rattle.kdf_usercode.specs.declared.forms.Form.{Form}
 use Rattle.kdf_usercode.specs.declared.phase.Phase.{Phase}
 use Rattle.kdf_usercode.specs.declared.reading.Reading.{Reading}
 use Rattle.kdf_usercode.specs.Faults.{Found, lesser, least, founds}
+use Rattle.kdf_usercode.specs.declared.statement.Statement.{Statement}
 use Rattle.kdf_usercode.specs.declared.statement.What.{What}
 use Rattle.kdf_usercode.specs.Capped.{capped}
 use Rattle.kdf_usercode.specs.Range.{range_faults}
@@ -15,6 +16,7 @@ use Rattle.kdf_usercode.specs.Parsed.{Parsed}
 use Rattle.kdf_usercode.specs.Orders.{formless}
 use Rattle.kdf_usercode.specs.Grammar.{formed_faults, statement_faults, phase_after, statements_of}
 use Rattle.kdf_usercode.specs.Reading.{ReadsForm, Reads}
+use Rattle.kdf_usercode.specs.Thinned.{thinned, stars_behind}
 use Rattle.kdf_usercode.proofs.Capped.{form-faults-capped, what-capped}
 use Rattle.kdf_usercode.proofs.Ranges.{nil-append}
 use Rattle.kdf_usercode.proofs.Least.{none-before, none-behind, no-founds, least-front, founds-append}
@@ -32,6 +34,7 @@ reads-ended old best' s ended e = record {
   phase = rw ended refl;
   best = rw ended e;
   statements = λ none. not-none old.best best' (record { fault = AfterFinish; place = s.place }) e none;
+  stars = λ none. not-none old.best best' (record { fault = AfterFinish; place = s.place }) e none;
 }
 
 pub reads-formless : (old : Reading) (best' : Option Found) (s : Parsed) → is_ended old.phase ≡ false
@@ -43,6 +46,7 @@ reads-formless old best' s goes none-of e = record {
   phase = rw (goes, none-of) refl;
   best = rw (goes, none-of) e;
   statements = λ none. not-none old.best best' (record { fault = formless s.shape; place = s.place }) e none;
+  stars = λ none. not-none old.best best' (record { fault = formless s.shape; place = s.place }) e none;
 }
 
 pub reads-form : (old new : Reading) (s : Parsed) (form : Form) → is_ended old.phase ≡ false
@@ -71,13 +75,15 @@ pub reads-capped : (old new : Reading) (place : ℕ) (form : Form) (ns text : Li
 reads-capped old new place form ns text h =
     let best : new.best ≡ lesser old.best (least (founds place (formed_faults old.phase form ns text)))
     = h.best ∙ ap (λ (fs : List DeckFault). lesser old.best (least (founds place fs))) (faults-capped old.phase form ns text) in
+    let one : What → List Statement = λ what. record { place = place; what = what } ∷ [] in
+    let same = λ (none : new.best ≡ None). what-capped old.phase.stage form ns text
+    (none-out old.best new.best place (range_faults (ranges_of form) ns) (text_faults form text)
+    (cond (is_in_place old.phase form) [] (BadHeading ∷ [])) best none) in
     record {
       phase = h.phase;
       best = best;
-      statements = λ none. h.statements none
-          ∙ ap (λ (what : What). old.statements.items ++ record { place = place; what = what } ∷ [])
-          (what-capped old.phase.stage form ns text (none-out old.best new.best place (range_faults (ranges_of form) ns) (text_faults form text)
-          (cond (is_in_place old.phase form) [] (BadHeading ∷ [])) best none));
+      statements = λ none. h.statements none ∙ ap (λ (what : What). old.statements.items ++ thinned old.stars (one what)) (same none);
+      stars = λ none. h.stars none ∙ ap (λ (what : What). stars_behind old.stars (one what)) (same none);
     }
 
 -- faults of two kinds at one place, one after the other

@@ -4,6 +4,7 @@ pub mod Shapes
 pub mod OctalDigits
 pub mod Ranges
 pub mod Capped
+pub mod Thinned
 pub mod Outcome
 pub mod Gain
 pub mod Scan
@@ -12,5 +13,6 @@ pub mod InTables
 pub mod Fits
 pub mod Rises
 pub mod Sequence
+pub mod ThinnedFormed
 pub mod WellFormed
 pub mod BadBytes

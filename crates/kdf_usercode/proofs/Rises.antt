@@ -30,7 +30,7 @@ parsed-lower : (low low' high : ℕ) (ws : List Parsed) → low' ≤ low → Par
 parsed-lower low low' high [] le h = tt
 parsed-lower low low' high (w ∷ ws) le h = (omega (arith, h.0), h.1, h.2)
 
-rises-lower : (low low' high : ℕ) (ss : List Statement) → low' ≤ low → Rises low ss high
+pub rises-lower : (low low' high : ℕ) (ss : List Statement) → low' ≤ low → Rises low ss high
     → Rises low' ss high
 rises-lower low low' high [] le h = tt
 rises-lower low low' high (s ∷ ss) le h = (omega (arith, h.0), h.1, h.2)

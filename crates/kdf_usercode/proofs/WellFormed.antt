@@ -5,6 +5,7 @@ use Rattle.kdf_usercode.specs.declared.fault.DeckError.{DeckError}
 use Rattle.kdf_usercode.specs.declared.statement.Deck.{Deck}
 use Rattle.kdf_usercode.specs.declared.statement.Statement.{Statement}
 use Rattle.kdf_usercode.specs.declared.phase.Stage.TheVariants.{Heading}
+use Rattle.kdf_usercode.specs.declared.stars.Stars.TheVariants.{AfterOther}
 use Rattle.kdf_usercode.specs.Faults.{Found}
 use Rattle.kdf_usercode.specs.Comments.{kept}
 use Rattle.kdf_usercode.specs.Parsed.{parses}
@@ -12,10 +13,12 @@ use Rattle.kdf_usercode.specs.Pieces.{cut}
 use Rattle.kdf_usercode.specs.Phase.{start}
 use Rattle.kdf_usercode.specs.Grammar.{bytes_faults, comment_faults, faults_from, faults_of, early, statements, verdict, deck}
 use Rattle.kdf_usercode.specs.Reading.{Gives}
+use Rattle.kdf_usercode.specs.Thinned.{thinned, thinned_deck}
 use Rattle.kdf_usercode.specs.WellFormed.{IsSequence, DeclareOnce, AreWellFormed, IsWellFormed}
 use Rattle.kdf_usercode.proofs.Least.{least-none}
 use Rattle.kdf_usercode.proofs.Rises.{rising}
 use Rattle.kdf_usercode.proofs.Sequence.{none-there, pieces-forms, are-in-range, is-sequence, declare-once}
+use Rattle.kdf_usercode.proofs.ThinnedFormed.{thinned-formed}
 
 -- a deck without a fault has none in its statements
 no-faults : (text : List ℕ) → early text ≡ None
@@ -56,3 +59,12 @@ gives-well-formed (Ok d) text short h =
     subst (λ (n : ℕ). AreWellFormed d.statements.items n) (sym h.1)
     (subst (λ (ss : List Statement). AreWellFormed ss (length text)) v.1 (are-well-formed text short v.0))
 gives-well-formed (Err e) text short h = tt
+
+pub gives-thinned-formed : (result : Result Deck DeckError) (text : List ℕ) → length text ≤ 268435456
+    → Gives result (length text) (thinned_deck AfterOther text) → IfOk result IsWellFormed
+gives-thinned-formed (Ok d) text short h =
+    let v = ok-verdict (early text) (thinned AfterOther (statements text)) d.statements.items h.0 in
+    subst (λ (n : ℕ). AreWellFormed d.statements.items n) (sym h.1)
+    (subst (λ (ss : List Statement). AreWellFormed ss (length text)) v.1
+    (thinned-formed (statements text) (length text) (are-well-formed text short v.0)))
+gives-thinned-formed (Err e) text short h = tt

@@ -18,6 +18,7 @@ pub mod Forms
 pub mod Parsed
 pub mod Phase
 pub mod Grammar
+pub mod Thinned
 pub mod Reading
 pub mod Rising
 pub mod WellFormed

@@ -6,6 +6,7 @@ use Rattle.kdf_usercode.specs.declared.fault.DeckError.{DeckError}
 use Rattle.kdf_usercode.specs.declared.fault.DeckError.TheVariants as errors
 use Rattle.kdf_usercode.specs.declared.forms.Form.{Form}
 use Rattle.kdf_usercode.specs.declared.phase.Phase.{Phase}
+use Rattle.kdf_usercode.specs.declared.stars.Stars.{Stars}
 use Rattle.kdf_usercode.specs.declared.statement.Deck.{Deck}
 use Rattle.kdf_usercode.specs.declared.statement.Statement.{Statement}
 use Rattle.kdf_usercode.specs.declared.reading.Reading.{Reading}
@@ -14,6 +15,7 @@ use Rattle.kdf_usercode.specs.Grammar.{comment_faults, formed_faults, said, stat
 use Rattle.kdf_usercode.specs.Parsed.{Parsed, parses}
 use Rattle.kdf_usercode.specs.Phase.{phase_with}
 use Rattle.kdf_usercode.specs.Pieces.{in_front, cut}
+use Rattle.kdf_usercode.specs.Thinned.{thinned, stars_behind}
 
 -- What a function returned is this, unless memory ran out.
 abbrev pub Gives : Result Deck DeckError → ℕ → Result (List Statement) Found → Type 0
@@ -22,12 +24,13 @@ Gives (Err errors.Memory) len due = Unit {0}
 Gives (Err (errors.Fault fault place)) len due = due ≡ Err (found fault place)
 
 -- The phase, and these faults and statements more. The statements are only kept up while there is no
--- fault.
+-- fault, and of those only what isn't left out.
 pub record Gains (old new : Reading) (next : Phase) (fs : List Found) (ss : List Statement)
     : Type 0 where
   pub phase : new.phase ≡ next
   pub best : new.best ≡ lesser old.best (least fs)
-  pub statements : new.best ≡ None → new.statements.items ≡ old.statements.items ++ ss
+  pub statements : new.best ≡ None → new.statements.items ≡ old.statements.items ++ thinned old.stars ss
+  pub stars : new.best ≡ None → new.stars ≡ stars_behind old.stars ss
 
 -- a statement of this form more was read
 abbrev pub ReadsForm : Reading → Reading → ℕ → Form → List ℕ → List ℕ → Type 0
@@ -43,16 +46,16 @@ Reads old new s =
 -- What comes of a deck that was read so far, with the first fault and the statements of that part.
 -- `front` are faults of bytes still to come, `ahead` the statements still to come, and `tail` what
 -- stands after the last `;`.
-abbrev pub outcome : Phase → Option Found → List Statement → ℕ
+abbrev pub outcome : Phase → Option Found → Stars → List Statement → ℕ
     → List Found → List Parsed → List ByteAt → Result (List Statement) Found
-outcome phase best ss len front ahead tail =
+outcome phase best stars ss len front ahead tail =
     verdict (lesser best (least (front ++ faults_from phase len ahead tail)))
-    (ss ++ statements_from phase ahead)
+    (ss ++ thinned stars (statements_from phase ahead))
 
 -- the same, of a reader
 abbrev pub comes : Reading → ℕ → List Found → List Parsed → List ByteAt
     → Result (List Statement) Found
-comes r len front ahead tail = outcome r.phase r.best r.statements.items len front ahead tail
+comes r len front ahead tail = outcome r.phase r.best r.stars r.statements.items len front ahead tail
 
 -- these statements were read, whatever is still to come
 abbrev pub ReadsAll : Reading → Reading → List Parsed → Type 0

@@ -8,7 +8,8 @@
 //!
 //! What is wrong is listed as faults with their places, in any order, and the answer is the first of them.
 //! `read_deck` looks for a byte that no deck may have, and then goes over what stays once. It keeps the first
-//! fault so far, and the statements while there is none.
+//! fault so far, and the statements while there is none. `read_thinned` does the same, but leaves out the `*`
+//! that do nothing (`stars`).
 #![tactic(auto)]
 
 mod bytes;
@@ -28,10 +29,11 @@ mod range;
 mod reader;
 mod reading;
 mod shape;
+mod stars;
 mod statement;
 mod stores;
 mod unread;
 
 pub use fault::{DeckError, DeckFault};
-pub use reader::read_deck;
+pub use reader::{read_deck, read_thinned};
 pub use statement::{Deck, Item, Named, Statement, Target, Value, What};

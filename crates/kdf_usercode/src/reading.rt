@@ -5,7 +5,10 @@ ghost use Rattle.kdf_usercode.specs.Faults.{Found as FoundFault, lesser, least, 
 ghost use Rattle.kdf_usercode.specs.Parsed.{parsed, statements_in};
 ghost use Rattle.kdf_usercode.specs.Pieces.{codes_of};
 ghost use Rattle.kdf_usercode.specs.Phase.{is_in_place};
-ghost use Rattle.kdf_usercode.specs.Grammar.{bytes_faults, comment_faults, at_first, end_faults};
+ghost use Rattle.kdf_usercode.specs.Forms.{ranges_of, text_faults};
+ghost use Rattle.kdf_usercode.specs.Grammar.{bytes_faults, comment_faults, said, at_first, end_faults};
+ghost use Rattle.kdf_usercode.specs.Range.{range_faults};
+ghost use Rattle.kdf_usercode.specs.Thinned.{thinned, stars_behind};
 ghost use Rattle.kdf_usercode.specs.Reading.{ReadsForm, Reads, ReadsAll, Gives, with_ahead};
 
 use crate::bytes::{ByteAt, first_bad};
@@ -14,6 +17,7 @@ use crate::forms::{Form, form_in, what_of, with_numbers, with_text};
 use crate::orders::formless;
 use crate::phase::{Phase, is_in_place, phase_with};
 use crate::shape::{Parts, numbers_into, shape_into};
+use crate::stars::Stars;
 use crate::statement::{Deck, Statement};
 use kdf_fault::{Found, earlier};
 use std::alloc::{AllocError, Global};
@@ -24,6 +28,7 @@ pub struct Reading {
     pub phase: Phase,
     pub best: Option<Found<DeckFault>>,
     pub statements: Vec<Statement>,
+    pub stars: Stars,
 }
 
 /// Where the statements are held while they are read, each in the room of the one before, so that memory is
@@ -139,6 +144,30 @@ fn bytes_into(piece: &[ByteAt], room: &mut Vec<u8>) -> Result<(), AllocError>
 }
 
 impl Reading {
+    /// Keeps a statement of this form without a fault, unless it is a `*` that isn't kept.
+    fn keep(
+        &mut self,
+        place: u32,
+        form: Form,
+        numbers: &[u64],
+        text: &[u8],
+    ) -> Result<(), AllocError>
+        requires numbers { range_faults (ranges_of form) numbers.now ≡ [] }
+        requires text { text_faults form text.now ≡ [] }
+        ensures statements { OnOk result (self.new.statements.items ≡ self.old.statements.items
+            ++ thinned self.old.stars (said self.old.phase place form numbers.now text.now ∷ [])) }
+        ensures stars { OnOk result (self.new.stars
+            ≡ stars_behind self.old.stars (said self.old.phase place form numbers.now text.now ∷ [])) }
+    {
+        let next = self.stars.after(form);
+        if self.stars.keeps(form) {
+            let what = what_of(self.phase.stage, form, numbers, text);
+            self.statements.push(Statement { place, what })?;
+        }
+        self.stars = next;
+        Ok(())
+    }
+
     /// A statement of this form. It is kept where it has no fault and none came before it.
     fn form(
         &mut self,
@@ -154,8 +183,7 @@ impl Reading {
         let best = with_heading(best, place, self.phase, form);
         let phase = phase_with(self.phase, form);
         if best.is_none() {
-            let what = what_of(self.phase.stage, form, numbers, text);
-            self.statements.push(Statement { place, what })?;
+            self.keep(place, form, numbers, text)?;
         }
         self.best = best;
         self.phase = phase;

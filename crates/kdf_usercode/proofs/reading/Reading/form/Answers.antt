@@ -8,7 +8,7 @@ use Rattle.kdf_usercode.specs.Phase.{is_in_place}
 use Rattle.kdf_usercode.proofs.Ranges.{nil-append}
 use Rattle.kdf_usercode.proofs.Gain.{two-kinds, no-fault}
 use Rattle.kdf_usercode.proofs.reading.Reading.form.Goals as goal
-use Rattle.kdf_usercode.proofs.reading.Reading.form.Goals.{then-is_none+in_ok-push, else-is_none}
+use Rattle.kdf_usercode.proofs.reading.Reading.form.Goals.{then-is_none+in_ok-keep, else-is_none}
 
 none-is : {A : Type 0} (o : Option A) → is_none o ≡ true → o ≡ None
 none-is None e = refl
@@ -18,8 +18,8 @@ is-none : {A B : Type 0} (o : Option A) → is_none o ≡ false → o ≡ None �
 is-none None e n = absurd cc
 is-none (Some x) e n = absurd cc
 
-pub what_of-what-requires : goal.what_of-what-requires
-what_of-what-requires c =
+pub keep-requires : goal.keep-requires
+keep-requires c =
     let best = c.args.self.now.best in
     let place = c.args.place in
     let here = range_faults (ranges_of c.args.form) c.args.numbers.now in
@@ -42,7 +42,11 @@ returns c =
       phase = c.phase_with-phase.ensures;
       best = c.with_heading-best.ensures ∙ ap (λ o. lesser o (least (founds place gs))) h ∙ two-kinds best place (here ++ texts) gs;
       statements = λ none. elim c.if-is_none.branch [
-        | then-is_none+in_ok-push w ↦ rw (w.self-is, w.in_ok-push.ensures.items, w.what_of-what.ensures) refl
+        | then-is_none+in_ok-keep w ↦ rw w.self-is w.in_ok-keep.ensures.statements
+        | else-is_none w ↦ is-none c.with_heading-best.result (grind arith) none
+      ];
+      stars = λ none. elim c.if-is_none.branch [
+        | then-is_none+in_ok-keep w ↦ rw w.self-is w.in_ok-keep.ensures.stars
         | else-is_none w ↦ is-none c.with_heading-best.result (grind arith) none
       ];
     }

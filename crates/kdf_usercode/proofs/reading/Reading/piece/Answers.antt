@@ -20,7 +20,7 @@ returns-then-k-ne42 c =
     on_ok_weaker c.statement.result
     (λ reads. λ len front ws tail.
     outcome-statement c.loop-i.self c.statement.new.self (made c.deref.result.now) len front ws tail reads
-    ∙ ap (λ (x : List Parsed). outcome c.loop-i.self.phase c.loop-i.self.best c.loop-i.self.statements.items len front (x ++ ws) tail)
+    ∙ ap (λ (x : List Parsed). outcome c.loop-i.self.phase c.loop-i.self.best c.loop-i.self.stars c.loop-i.self.statements.items len front (x ++ ws) tail)
     (ap (λ (cs : List ℕ). made cs ∷ []) text ∙ sym last)
     ∙ c.loop-i.invariant len front ws tail)
     c.statement.ensures
@@ -33,5 +33,6 @@ loop-i-preserved c = λ len front ws tail.
     let star : Parsed = parsed (get_or piece i d).at (42 ∷ []) in
     let next = statements_in-star piece i d c.loop-i-test.true c.if-k-ne42.false in
     outcome-statement c.loop-i.self c.statement-in-loop-i.new.self star len front (statements_in (drop (i + 1) piece) ++ ws) tail c.in_ok-statement.ensures
-    ∙ ap (λ (x : List Parsed). outcome c.loop-i.self.phase c.loop-i.self.best c.loop-i.self.statements.items len front (x ++ ws) tail) (sym next)
+    ∙ ap (λ (x : List Parsed). outcome c.loop-i.self.phase c.loop-i.self.best c.loop-i.self.stars c.loop-i.self.statements.items len front (x ++ ws) tail)
+    (sym next)
     ∙ c.loop-i.invariant len front ws tail
