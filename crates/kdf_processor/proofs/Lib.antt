@@ -10,6 +10,7 @@ pub mod Frees
 pub mod Pending
 pub mod Small
 pub mod Shifted
+pub mod Together
 pub mod Words
 pub mod EachEffect
 pub mod Fit
