@@ -9,6 +9,7 @@ pub mod Finding
 pub mod Frees
 pub mod Pending
 pub mod Shifted
+pub mod Together
 pub mod Words
 pub mod EachEffect
 pub mod Fit

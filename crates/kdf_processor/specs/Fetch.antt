@@ -1,5 +1,5 @@
 -- What the fetch of an order answers.
-use Rattle.std.specs.Prelude.{◌≡◌, [], ◌∷◌, ℕ, ◌/◌, Option, Some, None, if◌then◌else◌, nat_lt}
+use Rattle.std.specs.Prelude.{◌≡◌, List, [], ◌∷◌, ℕ, ◌/◌, ◌%◌, Option, Some, None, if◌then◌else◌, nat_lt}
 use Rattle.kdf_syllable.specs.declared.order.Order.{Order}
 use Rattle.kdf_processor.specs.declared.step.Need.{Need}
 use Rattle.kdf_processor.specs.declared.step.Need.TheVariants.{Group}
@@ -22,6 +22,14 @@ abbrev pub IsFetched : Option Order → Fetched → Type 0
 IsFetched order (fetched.Spelt a b d) = order ≡ first_decoded (a ∷ b ∷ d ∷ [])
 IsFetched order fetched.Bad = order ≡ None
 IsFetched order (fetched.Held g) = Unit {0}
+
+-- the three syllables of 24 bits
+abbrev pub bytes_of : ℕ → List ℕ
+bytes_of bits = bits / 65536 % 256 ∷ bits / 256 % 256 ∷ bits % 256 ∷ []
+
+-- the fetch that gives them
+abbrev pub spelt_of : ℕ → Fetched
+spelt_of bits = fetched.Spelt (bits / 65536 % 256) (bits / 256 % 256) (bits % 256)
 
 -- what the fetch at a place gives: the first group of it that is out, or else the order there
 pub record IsFetchedAt (v : View) (at : ℕ) (given : Fetched) : Type 0 where

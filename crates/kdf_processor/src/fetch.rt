@@ -1,9 +1,10 @@
 //! The fetch of an order: the syllables that spell it.
-ghost use Rattle.std.specs.Prelude.{◌≡◌, ◌≢◌, ◌+◌, ◌<◌, ◌≤◌, ◌/◌, ◌%◌, ◌^◌, [], ◌∷◌, None, false};
+ghost use Rattle.std.specs.Prelude.{◌≡◌, ◌≢◌, ◌+◌, ◌<◌, ◌≤◌, ◌/◌, ◌%◌, ◌^◌, [], ◌∷◌, None, false, IfSome};
 ghost use Rattle.kdf_decode.specs.Decoding.{first_decoded};
 ghost use Rattle.kdf_processor.specs.Buffered.{IsHeld};
-ghost use Rattle.kdf_processor.specs.Fetch.{held_of, IsFetched, IsFetchedAt, syllable_read};
+ghost use Rattle.kdf_processor.specs.Fetch.{held_of, IsFetched, IsFetchedAt, spelt_of, syllable_read};
 ghost use Rattle.kdf_processor.specs.Needs.{group_of, syllable_at};
+ghost use Rattle.kdf_processor.specs.declared.fetch.Fetched.TheVariants.{Spelt};
 ghost use Rattle.kdf_processor.specs.Table.{on};
 ghost use Rattle.kdf_syllable.specs.Packing.{syllable};
 ghost use Rattle.kdf_syllable.specs.Spelling.{size_of_first};
@@ -64,31 +65,35 @@ pub fn fetch_order<P: Port>(port: &P, at: u16) -> Fetched
     }
 }
 
-/// The order at a syllable of this word.
+/// The 24 bits that the order at a syllable of this word begins, or None where it is held up or there is none.
 #[inline(always)]
-pub fn fetch_from<P: Port>(port: &P, held: Buffer, at: u16) -> Fetched
+pub fn fetch_from<P: Port>(port: &P, held: Buffer, at: u16) -> Option<u32>
     requires held { IsHeld (P.shows port.now) held }
     requires low { held.first ≤ at }
     requires high { at < held.first + 6 }
-    ensures { IsFetchedAt (P.shows port.now) at result }
+    ensures { IfSome result (λ bits. IsFetchedAt (P.shows port.now) at (spelt_of bits)) }
 {
     match at - held.first {
-        0..4 => held_within(port, held, at),
-        4 => fetch_from_fifth(port, at, held.word),
-        _ => fetch_from_sixth(port, at, syllable(held.word, 5)),
+        0..4 => Some(bits_within(held.word, (at - held.first) as u8)),
+        4 => together(fetch_from_fifth(port, at, held.word)),
+        _ => together(fetch_from_sixth(port, at, syllable(held.word, 5))),
     }
 }
 
-/// The order at a syllable of this word after which two others stand in it.
+/// The 24 bits of three syllables that were fetched.
+#[tactic(auto, using(crate::proofs::Together::apart))]
 #[inline(always)]
-fn held_within<P: Port>(port: &P, held: Buffer, at: u16) -> Fetched
-    requires held { IsHeld (P.shows port.now) held }
-    requires low { held.first ≤ at }
-    requires place { at < held.first + 4 }
-    ensures { IsFetchedAt (P.shows port.now) at result }
+fn together(fetched: Fetched) -> Option<u32>
+    ensures { IfSome result (λ bits. fetched ≡ spelt_of bits) }
 {
-    let _ = port;
-    spelt_within(held.word, (at - held.first) as u8)
+    match fetched {
+        Fetched::Spelt {
+            first,
+            second,
+            third,
+        } => Some(u32::from(first) * 65_536 + u32::from(second) * 256 + u32::from(third)),
+        Fetched::Bad | Fetched::Held(_) => None,
+    }
 }
 
 /// The order at a syllable after which two others stand in its word.
@@ -197,6 +202,16 @@ fn spelt_within(word: Word, i: u8) -> Fetched
 {
     let last = from_syllable(word, i);
     spelt(syllable(last, 3), syllable(last, 4), syllable(last, 5))
+}
+
+/// The 24 bits of the syllables of a word from `i` to `i + 2`.
+#[tactic(auto, using(crate::proofs::Together::spelt_within))]
+#[inline(always)]
+fn bits_within(word: Word, i: u8) -> u32
+    requires { i < 4 }
+    ensures { spelt_of result ≡ Spelt (syllable word i) (syllable word (i + 1)) (syllable word (i + 2)) }
+{
+    (without_last(word, 3 - i).bits() % (1 << 24)) as u32
 }
 
 /// A word that ends with the syllables of another one from `i` to `i + 2`.

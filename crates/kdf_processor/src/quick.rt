@@ -2,15 +2,17 @@
 //!
 //! It obeys orders that change registers alone, fetch a word or keep one. Whatever fails, is held up or acts otherwise
 //! it leaves to the general way, and then it has changed nothing. All of it is inlined in the loop over the orders, so
-//! these functions are small and have one caller each, or two.
+//! these functions are small and have one caller each, or two. An order that is often met has an arm with its code in
+//! it: where that is inlined, nothing is left to be found out of the code.
 ghost use Rattle.std.specs.Prelude.{◌≡◌, ◌≢◌, ◌+◌, ◌<◌, ◌≤◌, [], ◌∷◌, IfNone, IfOk, IfSome};
 ghost use Rattle.std.specs.Result.{result_ok};
-ghost use Rattle.kdf_decode.specs.Decoding.{first_decoded};
+ghost use Rattle.kdf_decode.specs.Decoding.{decoded_jump, decoded_one, decoded_two, first_decoded};
 ghost use Rattle.kdf_syllable.specs.declared.order.Order.TheVariants as order;
 ghost use Rattle.kdf_syllable.specs.Spelling.{IsOrder, IsQ};
 ghost use Rattle.kdf_processor.specs.Ahead.{IsSmall};
 ghost use Rattle.kdf_processor.specs.Buffered.{Agrees, IsHeld};
 ghost use Rattle.kdf_processor.specs.Effect.{Act};
+ghost use Rattle.kdf_processor.specs.Fetch.{bytes_of};
 ghost use Rattle.kdf_processor.specs.Outcome.{Obeyed, outcome, try_effect};
 ghost use Rattle.kdf_processor.specs.Plan.{IsHalf, try_decoded, try_order};
 ghost use Rattle.kdf_processor.specs.Table.{fetches, guarded, keeps};
@@ -20,7 +22,7 @@ use crate::buffer::{word_of, write_word};
 use crate::copies::copy;
 use crate::counting::count;
 use crate::exit::exit;
-use crate::fetch::{Fetched, fetch_from};
+use crate::fetch::fetch_from;
 use crate::jump::jump;
 use crate::moves::{kept_in, pop_kept, push_fetched};
 use crate::plain::plain;
@@ -222,9 +224,9 @@ fn keep<P: Reserve>(
     Some(())
 }
 
-/// A store order.
+/// A store order at this address and M of Qq.
 #[inline(always)]
-fn obey_direct<P: Reserve>(
+fn obey_modified<P: Reserve>(
     registers: &mut Registers,
     port: &mut P,
     held: &mut Option<Buffer>,
@@ -247,6 +249,32 @@ fn obey_direct<P: Reserve>(
         keep(registers, port, held, access)
     } else {
         fetch(registers, port, access)
+    }
+}
+
+/// A store order. One that names no Q-store has an arm of its own.
+#[inline(always)]
+fn obey_direct<P: Reserve>(
+    registers: &mut Registers,
+    port: &mut P,
+    held: &mut Option<Buffer>,
+    t: bool,
+    u: bool,
+    q: u8,
+    a: u16,
+) -> Option<()>
+    requires ran { registers.old.ran < u32.MAX }
+    requires q { IsQ q }
+    requires small { (act : Act) → IsSmall act → P.room port.old act }
+    requires agrees { Agrees (P.shows port.old) held.old }
+    ensures obeyed { IfSome result (λ _. Obeyed P.acts
+        (try_order (P.shows port.old) registers.old (order.Direct t u q a)) port.old port.new registers.new Step.Done) }
+    ensures left { IfNone result ((registers.new ≡ registers.old) × (port.new ≡ port.old)) }
+    ensures agrees { Agrees (P.shows port.new) held.new }
+{
+    match q {
+        0 => obey_modified(registers, port, held, t, u, 0, a),
+        _ => obey_modified(registers, port, held, t, u, q, a),
     }
 }
 
@@ -298,6 +326,61 @@ fn obey_one<P: Port>(
     }
 }
 
+/// The order of one syllable of this code.
+#[inline(always)]
+fn obey_code<P: Port>(registers: &mut Registers, port: &P, code: u8) -> Option<()>
+    requires ran { registers.old.ran < u32.MAX }
+    ensures obeyed { IfSome result (λ _. Obeyed P.acts
+        (try_decoded (P.shows port.now) registers.old (decoded_one code)) port.now port.now registers.new Step.Done) }
+    ensures left { IfNone result (registers.new ≡ registers.old) }
+{
+    obey_one(registers, port, decode_one(code))
+}
+
+/// An order of one syllable. Each code has an arm of its own, so that one jump by the code leads to what it does.
+#[inline(always)]
+fn obey_by_code<P: Port>(registers: &mut Registers, port: &P, code: u8) -> Option<()>
+    requires ran { registers.old.ran < u32.MAX }
+    ensures obeyed { IfSome result (λ _. Obeyed P.acts
+        (try_decoded (P.shows port.now) registers.old (decoded_one code)) port.now port.now registers.new Step.Done) }
+    ensures left { IfNone result (registers.new ≡ registers.old) }
+{
+    match code {
+        0x01 => obey_code(registers, port, 0x01),
+        0x02 => obey_code(registers, port, 0x02),
+        0x03 => obey_code(registers, port, 0x03),
+        0x04 => obey_code(registers, port, 0x04),
+        0x05 => obey_code(registers, port, 0x05),
+        0x06 => obey_code(registers, port, 0x06),
+        0x07 => obey_code(registers, port, 0x07),
+        0x08 => obey_code(registers, port, 0x08),
+        0x09 => obey_code(registers, port, 0x09),
+        0x0a => obey_code(registers, port, 0x0a),
+        0x0b => obey_code(registers, port, 0x0b),
+        0x0c => obey_code(registers, port, 0x0c),
+        0x0d => obey_code(registers, port, 0x0d),
+        0x0e => obey_code(registers, port, 0x0e),
+        0x0f => obey_code(registers, port, 0x0f),
+        0x10 => obey_code(registers, port, 0x10),
+        0x11 => obey_code(registers, port, 0x11),
+        0x12 => obey_code(registers, port, 0x12),
+        0x14 => obey_code(registers, port, 0x14),
+        0x15 => obey_code(registers, port, 0x15),
+        0x16 => obey_code(registers, port, 0x16),
+        0x17 => obey_code(registers, port, 0x17),
+        0x18 => obey_code(registers, port, 0x18),
+        0x19 => obey_code(registers, port, 0x19),
+        0x1a => obey_code(registers, port, 0x1a),
+        0x1b => obey_code(registers, port, 0x1b),
+        0x1c => obey_code(registers, port, 0x1c),
+        0x1d => obey_code(registers, port, 0x1d),
+        0x1e => obey_code(registers, port, 0x1e),
+        0x1f => obey_code(registers, port, 0x1f),
+        0x20 => obey_code(registers, port, 0x20),
+        _ => None,
+    }
+}
+
 /// An order of two syllables.
 #[inline(always)]
 fn obey_two<P: Reserve>(
@@ -324,6 +407,54 @@ fn obey_two<P: Reserve>(
     }
 }
 
+/// The order of two syllables.
+#[inline(always)]
+fn obey_pair<P: Reserve>(
+    registers: &mut Registers,
+    port: &mut P,
+    held: &mut Option<Buffer>,
+    code: u8,
+    second: u8,
+) -> Option<()>
+    requires ran { registers.old.ran < u32.MAX }
+    requires small { (act : Act) → IsSmall act → P.room port.old act }
+    requires agrees { Agrees (P.shows port.old) held.old }
+    ensures obeyed { IfSome result (λ _. Obeyed P.acts
+        (try_decoded (P.shows port.old) registers.old (decoded_two code second)) port.old port.new registers.new Step.Done) }
+    ensures left { IfNone result ((registers.new ≡ registers.old) × (port.new ≡ port.old)) }
+    ensures agrees { Agrees (P.shows port.new) held.new }
+{
+    obey_two(registers, port, held, decode_two(code, second))
+}
+
+/// An order of two syllables. Shifts and JCqNZS have arms of their own.
+#[inline(always)]
+fn obey_by_pair<P: Reserve>(
+    registers: &mut Registers,
+    port: &mut P,
+    held: &mut Option<Buffer>,
+    code: u8,
+    second: u8,
+) -> Option<()>
+    requires ran { registers.old.ran < u32.MAX }
+    requires small { (act : Act) → IsSmall act → P.room port.old act }
+    requires agrees { Agrees (P.shows port.old) held.old }
+    ensures obeyed { IfSome result (λ _. Obeyed P.acts
+        (try_decoded (P.shows port.old) registers.old (decoded_two code second)) port.old port.new registers.new Step.Done) }
+    ensures left { IfNone result ((registers.new ≡ registers.old) × (port.new ≡ port.old)) }
+    ensures agrees { Agrees (P.shows port.new) held.new }
+{
+    match code {
+        0x6a => obey_pair(registers, port, held, 0x6a, second),
+        0x6b => obey_pair(registers, port, held, 0x6b, second),
+        0x6c => obey_pair(registers, port, held, 0x6c, second),
+        0x6d => obey_pair(registers, port, held, 0x6d, second),
+        0x6e => obey_pair(registers, port, held, 0x6e, second),
+        0x6f => obey_pair(registers, port, held, 0x6f, second),
+        _ => obey_pair(registers, port, held, code, second),
+    }
+}
+
 /// A jump, or EXIT.
 #[inline(always)]
 fn obey_going<P: Port>(
@@ -341,6 +472,45 @@ fn obey_going<P: Port>(
         Ok(Order::Jump { c, target }) => obey_jump(registers, port, c, target),
         Ok(Order::Exit { n }) => obey_exit(registers, port, n),
         _ => None,
+    }
+}
+
+/// The jump, or EXIT, of three syllables.
+#[inline(always)]
+fn obey_triple<P: Port>(
+    registers: &mut Registers,
+    port: &P,
+    first: u8,
+    second: u8,
+    third: u8,
+) -> Option<()>
+    requires ran { registers.old.ran < u32.MAX }
+    ensures obeyed { IfSome result (λ _. Obeyed P.acts
+        (try_decoded (P.shows port.now) registers.old (decoded_jump first second third)) port.now port.now registers.new
+        Step.Done) }
+    ensures left { IfNone result (registers.new ≡ registers.old) }
+{
+    obey_going(registers, port, decode_jump(first, second, third))
+}
+
+/// A jump, or EXIT. The jump that is always taken has an arm of its own.
+#[inline(always)]
+fn obey_by_triple<P: Port>(
+    registers: &mut Registers,
+    port: &P,
+    first: u8,
+    second: u8,
+    third: u8,
+) -> Option<()>
+    requires ran { registers.old.ran < u32.MAX }
+    ensures obeyed { IfSome result (λ _. Obeyed P.acts
+        (try_decoded (P.shows port.now) registers.old (decoded_jump first second third)) port.now port.now registers.new
+        Step.Done) }
+    ensures left { IfNone result (registers.new ≡ registers.old) }
+{
+    match first {
+        0xa0 => obey_triple(registers, port, 0xa0, second, third),
+        _ => obey_triple(registers, port, first, second, third),
     }
 }
 
@@ -388,11 +558,32 @@ fn obey_spelt<P: Reserve>(
     ensures agrees { Agrees (P.shows port.new) held.new }
 {
     match first {
-        0x00..=0x3f => obey_one(registers, port, decode_one(first)),
-        0x40..=0x7f => obey_two(registers, port, held, decode_two(first, second)),
-        0x80..=0xbf => obey_going(registers, port, decode_jump(first, second, third)),
+        0x00..=0x3f => obey_by_code(registers, port, first),
+        0x40..=0x7f => obey_by_pair(registers, port, held, first, second),
+        0x80..=0xbf => obey_by_triple(registers, port, first, second, third),
         0xc0..=0xff => obey_store(registers, port, held, decode_store(first, second, third)),
     }
+}
+
+/// The order that 24 bits begin with.
+#[inline(always)]
+fn obey_bits<P: Reserve>(
+    registers: &mut Registers,
+    port: &mut P,
+    held: &mut Option<Buffer>,
+    bits: u32,
+) -> Option<()>
+    requires ran { registers.old.ran < u32.MAX }
+    requires small { (act : Act) → IsSmall act → P.room port.old act }
+    requires agrees { Agrees (P.shows port.old) held.old }
+    ensures obeyed { IfSome result (λ _. Obeyed P.acts
+        (try_decoded (P.shows port.old) registers.old (first_decoded (bytes_of bits)))
+        port.old port.new registers.new Step.Done) }
+    ensures left { IfNone result ((registers.new ≡ registers.old) × (port.new ≡ port.old)) }
+    ensures agrees { Agrees (P.shows port.new) held.new }
+{
+    let (first, second) = ((bits / 65_536 % 256) as u8, (bits / 256 % 256) as u8);
+    obey_spelt(registers, port, held, first, second, (bits % 256) as u8)
 }
 
 /// An order at a syllable of this word.
@@ -415,12 +606,8 @@ fn obey_from<P: Reserve>(
     ensures agrees { Agrees (P.shows port.new) held.new }
 {
     match fetch_from(port, word, registers.at) {
-        Fetched::Spelt {
-            first,
-            second,
-            third,
-        } => obey_spelt(registers, port, held, first, second, third),
-        Fetched::Bad | Fetched::Held(_) => None,
+        Some(bits) => obey_bits(registers, port, held, bits),
+        None => None,
     }
 }
 
