@@ -1,5 +1,4 @@
 -- What a journal tells of the programs, and what its steps make of that.
-pub mod EqualFutures
 pub mod HoldsInside
 pub mod OthersStay
 pub mod Rows

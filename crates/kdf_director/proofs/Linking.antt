@@ -3,7 +3,6 @@ pub mod AfterEvents
 pub mod EventsEntered
 pub mod EventsFollowed
 pub mod FieldsShow
-pub mod FoundByNumber
 pub mod Halted
 pub mod HoldersChange
 pub mod JudgedAlike
@@ -15,3 +14,4 @@ pub mod OwnDevices
 pub mod OwnStates
 pub mod TransfersLinked
 pub mod TurnTaken
+pub mod YardEntered

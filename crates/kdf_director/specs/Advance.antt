@@ -10,8 +10,8 @@ use Rattle.kdf_processor.specs.declared.step.Step.{Step as Ending}
 use Rattle.kdf_processor.specs.declared.step.Step.TheVariants as ending
 use Rattle.kdf_director.specs.declared.machine.Progress.{Progress}
 use Rattle.kdf_director.specs.declared.machine.Progress.TheVariants as progress
-use Rattle.kdf_director.specs.declared.note.Note.{Note as Noted}
-use Rattle.kdf_director.specs.declared.note.Note.TheVariants as noted
+use Rattle.kdf_yard.specs.declared.note.Note.{Note as Noted}
+use Rattle.kdf_yard.specs.declared.note.Note.TheVariants as noted
 use Rattle.kdf_theory.specs.Legal.{note_of}
 use Rattle.kdf_theory.specs.Next.{any_live, next}
 use Rattle.kdf_theory.specs.Seen.{begun_row}

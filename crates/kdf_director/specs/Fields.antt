@@ -1,25 +1,7 @@
--- The fields of a machine: its store, places, slots and programs, and what an order, a call and an event make of them.
+-- The fields of a machine, and how they agree with its journal.
 pub mod Agrees
-pub mod Batches
-pub mod Begun
-pub mod CanTurn
-pub mod Filled
 pub mod Following
-pub mod Going
 pub mod Halted
-pub mod Keeping
 pub mod Machines
-pub mod Notes
-pub mod Owners
-pub mod Parts
-pub mod Running
-pub mod Settled
-pub mod Shared
-pub mod Sound
-pub mod Standing
-pub mod Stints
-pub mod Turn
 pub mod TurnTaken
-pub mod Turned
 pub mod Viewed
-pub mod Yards

@@ -25,11 +25,6 @@ place_for Never p = None
 place_for Each p = None
 place_for (At k at) p = if p == k then Some at else None
 
--- whether a program with these registers is at a place
-abbrev pub is_at : Option ℕ → Registers → Bool
-is_at None r = false
-is_at (Some at) r = r.at == at
-
 -- where the calls of one run stop before its end: nowhere, where each run is one call
 abbrev pub halt_inside : Halt → Halt
 halt_inside Never = Never

@@ -12,7 +12,7 @@ use Rattle.kdf_processor.specs.Needs.{group_of}
 use Rattle.kdf_transfer.specs.Slots.{Slot}
 use Rattle.kdf_processor.specs.State.{State, device_at, fixture_at, word_at}
 use Rattle.kdf_theory.specs.Flights.{Flight, move_count, touches}
-use Rattle.kdf_director.specs.Fields.Parts.{window_at}
+use Rattle.kdf_yard.specs.Fields.Parts.{window_at}
 use Rattle.kdf_theory.specs.Shown.{Shown, state_of}
 use Rattle.kdf_theory.specs.Slots.{slot_of}
 use Rattle.kdf_theory.specs.ByJournal.{flights_of, is_pending_after, own_after}

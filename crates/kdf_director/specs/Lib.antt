@@ -8,5 +8,4 @@ pub mod Orders
 pub mod Progressed
 pub mod Rows
 pub mod Runs
-pub mod Unasked
 pub mod Worked

@@ -1,5 +1,5 @@
 -- What calls of a machine in turn come to where several are made at once.
-use Rattle.std.specs.Prelude.{◌≡◌, ◌<◌, ◌≤◌, ◌+◌, ◌++◌, ◌⊎◌, ℕ, zero, suc, true, false, List, Option, None, Result, Ok, Err, replicate, unwrap_or}
+use Rattle.std.specs.Prelude.{◌≡◌, ◌<◌, ◌≤◌, ◌+◌, ◌++◌, ◌⊎◌, ℕ, zero, suc, true, false, List, Option, None, Result, Ok, Err, replicate}
 use Rattle.kdf_journal.specs.declared.entry.Entry.{Entry}
 use Rattle.kdf_journal.specs.Counts.{calls, clock}
 use Rattle.kdf_journal.specs.Steps.{Step as Told, added, steps}
@@ -8,35 +8,22 @@ use Rattle.kdf_processor.specs.declared.step.Step.{Step}
 use Rattle.kdf_schedule.specs.Calls.{AnOrder}
 use Rattle.kdf_course.specs.Follows.{EachLive, answered}
 use Rattle.kdf_director.specs.declared.machine.Progress.{Progress}
-use Rattle.kdf_director.specs.declared.note.Note.{Note}
+use Rattle.kdf_yard.specs.declared.note.Note.{Note}
 use Rattle.kdf_director.specs.Advance.{AdvanceWith}
 use Rattle.kdf_theory.specs.Legal.{IsLegal}
 use Rattle.kdf_theory.specs.Next.{lone_dispatched}
 use Rattle.kdf_director.specs.Orders.{HasMade}
-use Rattle.kdf_director.specs.Fields.Parts.{Reach, Seat}
-use Rattle.kdf_places.specs.Shared.{Shared}
-use Rattle.kdf_director.specs.Fields.Running.{reach_at, seat_at}
 use Rattle.kdf_director.specs.Progressed.{found_live}
 use Rattle.kdf_theory.specs.Served.{IsAnswered, IsTrueFor}
-use Rattle.kdf_director.specs.Fields.Shared.{moment}
 use Rattle.kdf_theory.specs.Shown.{Shown}
 use Rattle.kdf_theory.specs.InARow.{ran_on}
-use Rattle.kdf_theory.specs.Asked.{HasAsked}
 use Rattle.kdf_theory.specs.World.{hold_left}
 use Rattle.kdf_director.specs.Fields.TurnTaken.{progress_of, step_told}
-use Rattle.kdf_director.specs.Fields.Turned.{word_over, HasTurned}
 
 -- what holds a program after so many orders of which nothing is noted
 abbrev pub held_after : ℕ → Option Need → Option Need
 held_after zero hold = hold
 held_after (suc n) hold = None
-
--- program i of all tried its next order at this time, at which the service was heard where the order asked it
-pub record HasTriedAt (answers : ℕ → ℕ → Type 0) (reaches : List Reach) (time i : ℕ) (before : List Seat) (s : Shared)
-    (after : List Seat) (left : Shared) (ended : Step) (noted : Note) : Type 0 where
-  pub heard : Option ℕ
-  pub asked : HasAsked answers (word_over (seat_at before i) (reach_at reaches i) s) heard
-  pub turned : HasTurned reaches (moment time (unwrap_or heard 0)) i before s after left ended noted
 
 -- what is entered of so many orders of program p of which nothing is noted, and of the turn after them, which ended so:
 -- in all it makes so many calls

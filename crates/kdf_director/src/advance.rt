@@ -7,23 +7,21 @@ ghost use Rattle.kdf_processor.specs.declared.step.Step.TheVariants.{Done};
 ghost use Rattle.kdf_service.specs.Rules.{IsService};
 ghost use Rattle.kdf_director.specs.declared.halt.Halt.TheVariants.{Each, Never};
 ghost use Rattle.kdf_director.specs.declared.machine.Progress.TheVariants.{AllEnded, Idle};
-ghost use Rattle.kdf_director.specs.declared.note.Note.TheVariants.{Quiet};
+ghost use Rattle.kdf_yard.specs.declared.note.Note.TheVariants.{Quiet};
 ghost use Rattle.kdf_director.specs.Fields.Agrees.{IsReady};
-ghost use Rattle.kdf_director.specs.Fields.Parts.{seat_of};
-ghost use Rattle.kdf_director.specs.Fields.Running.{reach_at};
-ghost use Rattle.kdf_director.specs.Fields.Standing.{shown_of, IsSameYard};
-ghost use Rattle.kdf_director.specs.Fields.Yards.{any_in, first_in, hold_in, number_in, registers_in, AreLentIn, HasTriedIn, HasTriedQuietly};
-ghost use Rattle.kdf_director.specs.Halts.{is_at, place_for, HasMadeSomePast, HasPassedButFewer};
+ghost use Rattle.kdf_yard.specs.Fields.Parts.{seat_of};
+ghost use Rattle.kdf_director.specs.Fields.Viewed.{shown_of};
+ghost use Rattle.kdf_yard.specs.Fields.Yards.{any_in, first_in, hold_in, number_in, registers_in};
+ghost use Rattle.kdf_yard.specs.Fields.Batches.{is_at};
+ghost use Rattle.kdf_director.specs.Halts.{place_for, HasMadeSomePast, HasPassedButFewer};
 ghost use Rattle.kdf_director.specs.Runs.{HasEntered};
 
-use crate::dispatch::Batch;
 use crate::entries::{enter, enter_quiet};
-use crate::halt::{Seek, is_at};
-use crate::{Halt, Loaded, Note, Program, Progress, Yard};
+use crate::{Halt, Progress};
 use kdf_journal::{CALL_LIMIT, Entry, Journal, MOVE_LIMIT};
-use kdf_processor::{Life, Step};
+use kdf_processor::Step;
 use kdf_service::Service;
-use kdf_word::Word;
+use kdf_yard::{Batch, Note, Program, Seek, Yard, is_at};
 use std::alloc::AllocError;
 
 /// So many calls of a machine with a service, which leave room in the journal for so many events.
@@ -32,18 +30,6 @@ pub struct Calls<'a, F: Fn(u64) -> u64> {
     pub service: &'a Service<F>,
     pub room: u32,
     pub most: u32,
-}
-
-/// How many of so many orders of a program are tried with nothing heard between them. The service of a program that is
-/// served may be heard before each.
-#[inline(always)]
-fn batch_of(slot: &Loaded, most: u32) -> u32
-    requires { 0 < most }
-    ensures some { 0 < result }
-    ensures few { result ≤ most }
-    ensures served { slot.now.served ≡ true → result ≡ 1 }
-{
-    if slot.served { 1 } else { most }
 }
 
 /// Whether an order was obeyed of which nothing is noted, so that the same program is next.
@@ -82,193 +68,137 @@ fn enter_tried(
     }
 }
 
-impl Yard {
-    /// How many of so many orders of program `i` are tried with nothing heard between them.
-    #[inline(always)]
-    fn batch_at(&self, i: usize, most: u32) -> u32
-        requires there { i < length self.now.seats }
-        requires some { 0 < most }
-        ensures some { 0 < result }
-        ensures few { result ≤ most }
-        ensures served { (reach_at self.now.reaches i).served ≡ true → result ≡ 1 }
-    {
-        batch_of(&self.slots[i], most)
-    }
+/// Enters so many orders of program `i` of which nothing is noted, and how the turn after them ended, where it had
+/// memory. Answers how many calls that were, and what the last did. Nothing changes but what holds the program.
+#[inline(always)]
+fn enter_at(
+    yard: &mut Yard,
+    journal: &mut Journal,
+    i: usize,
+    quiet: u32,
+    tried: Result<(Step, Note), AllocError>,
+) -> Result<(u32, Progress), AllocError>
+    requires there { i < length yard.old.seats }
+    requires room { 2 ≤ journal.old.spare }
+    requires few_calls { calls journal.old.entries + quiet < CALL_LIMIT }
+    requires few_moves { moves journal.old.entries ≤ MOVE_LIMIT }
+    ensures entered { HasEntered journal.old.entries (number_in yard.old i) quiet (registers_in yard.old i).ran
+        (hold_in yard.old i) tried
+        journal.new.entries (hold_in yard.new i) result }
+    ensures spare { journal.old.spare ≤ journal.new.spare + 2 }
+    ensures rest { yard.new ≡ record yard.old { holds = slice_set yard.old.holds i (hold_in yard.new i) } }
+{
+    enter_tried(journal, &mut yard.programs[i], quiet, tried)
+}
 
-    /// Tries orders of a batch up to one of which something is noted, that is held, that ends the program or that comes
-    /// to its place. If one asks the service, the answer is drawn before it. Answers how many were obeyed before the
-    /// last, and how the last ended. At Err that had no memory, and has changed nothing.
-    #[inline(always)]
-    fn try_at<F: Fn(u64) -> u64, S: Seek>(
-        &mut self,
-        batch: Batch<'_>,
-        service: &Service<F>,
-    ) -> (u32, Result<(Step, Note), AllocError>)
-        requires service { IsService (F.pre service.now) (F.post service.now) }
-        requires there { batch.i < length self.old.seats }
-        requires live { (registers_in self.old batch.i).state ≡ Life.Live }
-        requires some { 0 < batch.most }
-        requires ran { (registers_in self.old batch.i).ran + batch.most ≤ u32.MAX }
-        requires lent { AreLentIn self.old batch.journal.now.entries }
-        requires seeks { S.seeks ≡ false → batch.place ≡ None }
-        ensures tried { IfOk result.1 (λ x. HasTriedIn (F.post service.now) batch.entry.time batch.entry.i result.0
-            batch.entry.place self.old self.new x.0 x.1) }
-        ensures err { OnErr result.1 (HasTriedQuietly (F.post service.now) batch.entry.time batch.entry.i result.0
-            batch.entry.place self.old self.new) }
-        ensures within { result.0 < batch.entry.most }
-        ensures same { IsSameYard self.old self.new }
-    {
-        let answer = self.heard(batch.i, batch.journal, service);
-        let heard = answer.unwrap_or(Word::default());
+/// The place at which calls stop where program `i` comes to it, where one is looked for.
+#[inline(always)]
+fn place_of_halt<S: Seek>(yard: &Yard, halt: Halt, i: usize) -> Option<u16>
+    requires there { i < length yard.now.seats }
+    requires seeks { S.seeks ≡ false → halt ≡ Never }
+    ensures place { result ≡ place_for halt (number_in yard.now i) }
+    ensures seeks { S.seeks ≡ false → result ≡ None }
+{
+    if S::seeks() {
+        halt.place(yard.programs[i].p)
+    } else {
+        None
+    }
+}
+
+/// Obeys orders of program `i`, which is next, up to one of which something is noted, that is held, that ends it or
+/// after which calls stop, and at most so many. They are entered at once: while nothing is noted, no other program's
+/// turn comes. Answers how many calls that were, and what the last did. At Err those that were obeyed are entered,
+/// and the one that had no memory has changed nothing.
+fn take_turns<F: Fn(u64) -> u64, S: Seek>(
+    yard: &mut Yard,
+    journal: &mut Journal,
+    due: &Calls<'_, F>,
+    i: usize,
+    halt: Halt,
+) -> Result<(u32, Progress), AllocError>
+    requires service { IsService (F.pre due.now.service.now) (F.post due.now.service.now) }
+    requires ready { IsReady yard.old journal.old due.now.room }
+    requires next { first_in yard.old (priorities journal.old.entries) ≡ Some i }
+    requires some { 0 < due.now.most }
+    requires few { calls journal.old.entries + due.now.most ≤ CALL_LIMIT }
+    requires inside { halt ≡ Each → ⊥ }
+    requires seeks { S.seeks ≡ false → halt ≡ Never }
+    ensures ready { IsReady yard.new journal.new due.now.room }
+    ensures made { IfOk result (λ x. HasMadeSomePast (F.post due.now.service.now) halt x.0
+        (shown_of yard.old journal.old due.now.room) (shown_of yard.new journal.new due.now.room) x.1) }
+    ensures within { IfOk result (λ x. x.0 ≤ due.now.most) }
+    ensures err { OnErr result (HasPassedButFewer (F.post due.now.service.now) halt due.now.most
+        (shown_of yard.old journal.old due.now.room) (shown_of yard.new journal.new due.now.room)) }
+{
+    journal.reserve(due.room + 2)?;
+    let time = journal.clock();
+    let place = place_of_halt::<S>(yard, halt, i);
+    let mut quiet = 0;
+    loop {
         let batch = Batch {
-            most: self.batch_at(batch.i, batch.most),
-            ..batch
+            i,
+            time,
+            journal,
+            most: due.most - quiet,
+            place,
         };
-        self.turn::<S>(batch, heard)
-    }
-
-    /// Enters so many orders of program `i` of which nothing is noted, and how the turn after them ended, where it had
-    /// memory. Answers how many calls that were, and what the last did. Nothing changes but what holds the program.
-    #[inline(always)]
-    fn enter_tried(
-        &mut self,
-        journal: &mut Journal,
-        i: usize,
-        quiet: u32,
-        tried: Result<(Step, Note), AllocError>,
-    ) -> Result<(u32, Progress), AllocError>
-        requires there { i < length self.old.seats }
-        requires room { 2 ≤ journal.old.spare }
-        requires few_calls { calls journal.old.entries + quiet < CALL_LIMIT }
-        requires few_moves { moves journal.old.entries ≤ MOVE_LIMIT }
-        ensures entered { HasEntered journal.old.entries (number_in self.old i) quiet (registers_in self.old i).ran
-            (hold_in self.old i) tried
-            journal.new.entries (hold_in self.new i) result }
-        ensures spare { journal.old.spare ≤ journal.new.spare + 2 }
-        ensures rest { self.new ≡ record self.old { holds = slice_set self.old.holds i (hold_in self.new i) } }
-    {
-        enter_tried(journal, &mut self.programs[i], quiet, tried)
-    }
-
-    /// The place at which calls stop where program `i` comes to it, where one is looked for.
-    #[inline(always)]
-    fn place_of_halt<S: Seek>(&self, halt: Halt, i: usize) -> Option<u16>
-        requires there { i < length self.now.seats }
-        requires seeks { S.seeks ≡ false → halt ≡ Never }
-        ensures place { result ≡ place_for halt (number_in self.now i) }
-        ensures seeks { S.seeks ≡ false → result ≡ None }
-    {
-        if S::seeks() {
-            halt.place(self.programs[i].p)
+        let (more, tried) = yard.try_at::<F, S>(batch, due.service);
+        quiet += more;
+        if quiet + 1 < due.most && is_quiet(&tried) && !yard.is_at::<S>(place, i) {
+            quiet += 1;
         } else {
-            None
+            return enter_at(yard, journal, i, quiet, tried);
         }
     }
+}
 
-    /// Whether program `i` is at a place, where one is looked for.
-    #[inline(always)]
-    fn is_at<S: Seek>(&self, place: Option<u16>, i: usize) -> bool
-        requires there { i < length self.now.seats }
-        requires seeks { S.seeks ≡ false → place ≡ None }
-        ensures { result ≡ is_at place (registers_in self.now i) }
-    {
-        is_at::<S>(place, &self.programs[i].registers)
+/// Enters that no program can go on, where one is live: so it is with all the calls that are left.
+#[inline(always)]
+fn wait(yard: &Yard, journal: &mut Journal, most: u32) -> (u32, Progress)
+    requires room { 1 ≤ journal.old.spare }
+    requires few_calls { calls journal.old.entries + most ≤ CALL_LIMIT }
+    requires few_moves { moves journal.old.entries ≤ MOVE_LIMIT }
+    ensures answer { result ≡ (if any_in yard.now then (most, Idle) else (1, AllEnded)) }
+    ensures entries { journal.new.entries ≡ (if any_in yard.now
+        then pushed journal.old.entries (Idled most) else journal.old.entries) }
+    ensures spare { journal.old.spare ≤ journal.new.spare + 1 }
+{
+    if yard.is_any_on() {
+        journal.push(Entry::Idle { n: most });
+        (most, Progress::Idle)
+    } else {
+        (1, Progress::AllEnded)
     }
+}
 
-    /// Obeys orders of program `i`, which is next, up to one of which something is noted, that is held, that ends it or
-    /// after which calls stop, and at most so many. They are entered at once: while nothing is noted, no other program's
-    /// turn comes. Answers how many calls that were, and what the last did. At Err those that were obeyed are entered,
-    /// and the one that had no memory has changed nothing.
-    fn take_turns<F: Fn(u64) -> u64, S: Seek>(
-        &mut self,
-        journal: &mut Journal,
-        due: &Calls<'_, F>,
-        i: usize,
-        halt: Halt,
-    ) -> Result<(u32, Progress), AllocError>
-        requires service { IsService (F.pre due.now.service.now) (F.post due.now.service.now) }
-        requires ready { IsReady self.old journal.old due.now.room }
-        requires next { first_in self.old (priorities journal.old.entries) ≡ Some i }
-        requires some { 0 < due.now.most }
-        requires few { calls journal.old.entries + due.now.most ≤ CALL_LIMIT }
-        requires inside { halt ≡ Each → ⊥ }
-        requires seeks { S.seeks ≡ false → halt ≡ Never }
-        ensures ready { IsReady self.new journal.new due.now.room }
-        ensures made { IfOk result (λ x. HasMadeSomePast (F.post due.now.service.now) halt x.0
-            (shown_of self.old journal.old due.now.room) (shown_of self.new journal.new due.now.room) x.1) }
-        ensures within { IfOk result (λ x. x.0 ≤ due.now.most) }
-        ensures err { OnErr result (HasPassedButFewer (F.post due.now.service.now) halt due.now.most
-            (shown_of self.old journal.old due.now.room) (shown_of self.new journal.new due.now.room)) }
-    {
-        journal.reserve(due.room + 2)?;
-        let time = journal.clock();
-        let place = self.place_of_halt::<S>(halt, i);
-        let mut quiet = 0;
-        loop {
-            let batch = Batch {
-                i,
-                time,
-                journal,
-                most: due.most - quiet,
-                place,
-            };
-            let (more, tried) = self.try_at::<F, S>(batch, due.service);
-            quiet += more;
-            if quiet + 1 < due.most && is_quiet(&tried) && !self.is_at::<S>(place, i) {
-                quiet += 1;
-            } else {
-                return self.enter_tried(journal, i, quiet, tried);
-            }
-        }
-    }
-
-    /// Enters that no program can go on, where one is live: so it is with all the calls that are left.
-    #[inline(always)]
-    fn wait(&self, journal: &mut Journal, most: u32) -> (u32, Progress)
-        requires room { 1 ≤ journal.old.spare }
-        requires few_calls { calls journal.old.entries + most ≤ CALL_LIMIT }
-        requires few_moves { moves journal.old.entries ≤ MOVE_LIMIT }
-        ensures answer { result ≡ (if any_in self.now then (most, Idle) else (1, AllEnded)) }
-        ensures entries { journal.new.entries ≡ (if any_in self.now
-            then pushed journal.old.entries (Idled most) else journal.old.entries) }
-        ensures spare { journal.old.spare ≤ journal.new.spare + 1 }
-    {
-        if self.is_any_on() {
-            journal.push(Entry::Idle { n: most });
-            (most, Progress::Idle)
-        } else {
-            (1, Progress::AllEnded)
-        }
-    }
-
-    /// Some of these calls, one at least: the orders of the program that is next, as far as it stays next and up to one
-    /// after which they stop, or all, where none can go on. Answers how many, and what the last did. At Err some are
-    /// made, and the one that had no memory has changed nothing.
-    pub(crate) fn advance<F: Fn(u64) -> u64, S: Seek>(
-        &mut self,
-        journal: &mut Journal,
-        due: &Calls<'_, F>,
-        halt: Halt,
-    ) -> Result<(u32, Progress), AllocError>
-        requires service { IsService (F.pre due.now.service.now) (F.post due.now.service.now) }
-        requires ready { IsReady self.old journal.old due.now.room }
-        requires some { 0 < due.now.most }
-        requires few { calls journal.old.entries + due.now.most ≤ CALL_LIMIT }
-        requires inside { halt ≡ Each → ⊥ }
-        requires seeks { S.seeks ≡ false → halt ≡ Never }
-        ensures ready { IsReady self.new journal.new due.now.room }
-        ensures made { IfOk result (λ x. HasMadeSomePast (F.post due.now.service.now) halt x.0
-            (shown_of self.old journal.old due.now.room) (shown_of self.new journal.new due.now.room) x.1) }
-        ensures within { IfOk result (λ x. x.0 ≤ due.now.most) }
-        ensures err { OnErr result (HasPassedButFewer (F.post due.now.service.now) halt due.now.most
-            (shown_of self.old journal.old due.now.room) (shown_of self.new journal.new due.now.room)) }
-    {
-        match self.next_of(journal) {
-            Some(i) => self.take_turns::<F, S>(journal, due, i, halt),
-            None => {
-                journal.reserve(due.room + 2)?;
-                Ok(self.wait(journal, due.most))
-            }
+/// Some of these calls, one at least: the orders of the program that is next, as far as it stays next and up to one
+/// after which they stop, or all, where none can go on. Answers how many, and what the last did. At Err some are
+/// made, and the one that had no memory has changed nothing.
+pub(crate) fn advance<F: Fn(u64) -> u64, S: Seek>(
+    yard: &mut Yard,
+    journal: &mut Journal,
+    due: &Calls<'_, F>,
+    halt: Halt,
+) -> Result<(u32, Progress), AllocError>
+    requires service { IsService (F.pre due.now.service.now) (F.post due.now.service.now) }
+    requires ready { IsReady yard.old journal.old due.now.room }
+    requires some { 0 < due.now.most }
+    requires few { calls journal.old.entries + due.now.most ≤ CALL_LIMIT }
+    requires inside { halt ≡ Each → ⊥ }
+    requires seeks { S.seeks ≡ false → halt ≡ Never }
+    ensures ready { IsReady yard.new journal.new due.now.room }
+    ensures made { IfOk result (λ x. HasMadeSomePast (F.post due.now.service.now) halt x.0
+        (shown_of yard.old journal.old due.now.room) (shown_of yard.new journal.new due.now.room) x.1) }
+    ensures within { IfOk result (λ x. x.0 ≤ due.now.most) }
+    ensures err { OnErr result (HasPassedButFewer (F.post due.now.service.now) halt due.now.most
+        (shown_of yard.old journal.old due.now.room) (shown_of yard.new journal.new due.now.room)) }
+{
+    match yard.next_of(journal) {
+        Some(i) => take_turns::<F, S>(yard, journal, due, i, halt),
+        None => {
+            journal.reserve(due.room + 2)?;
+            Ok(wait(yard, journal, due.most))
         }
     }
 }

@@ -5,15 +5,16 @@ ghost use Rattle.kdf_journal.specs.Counts.{calls, moves};
 ghost use Rattle.kdf_journal.specs.Joined.{pushed};
 ghost use Rattle.kdf_journal.specs.Steps.{added, noted, Holds};
 ghost use Rattle.kdf_director.specs.Advance.{note_beside, note_told};
-ghost use Rattle.kdf_director.specs.Fields.Parts.{seat_of};
+ghost use Rattle.kdf_yard.specs.Fields.Parts.{seat_of};
 ghost use Rattle.kdf_director.specs.Runs.{held_after};
 ghost use Rattle.kdf_theory.specs.InARow.{ran_on};
 ghost use Rattle.kdf_director.specs.Fields.TurnTaken.{progress_of, step_told};
 ghost use Rattle.kdf_theory.specs.World.{hold_left, hold_of};
 
-use crate::{Note, Program, Progress};
+use crate::Progress;
 use kdf_journal::{CALL_LIMIT, Entry, Journal, MOVE_LIMIT};
 use kdf_processor::{Need, Step};
+use kdf_yard::{Note, Program};
 
 /// Enters that a program obeyed so many orders of which nothing is noted, and how the turn after them ended, and tells
 /// that. From now on the program is held by what held its last order, or by nothing.

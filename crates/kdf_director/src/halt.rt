@@ -1,13 +1,12 @@
 //! Where calls of a machine stop before all are made.
-ghost use Rattle.std.specs.Prelude.{◌≡◌, ◌==◌, ◌<◌, ◌≤◌, Bool, None, false, find, true};
+ghost use Rattle.std.specs.Prelude.{◌≡◌, ◌==◌, ◌<◌, ◌≤◌, None, false, find, true};
 ghost use Rattle.std.specs.Option.{option_map};
 ghost use Rattle.kdf_director.specs.declared.halt.Halt.TheVariants.{Each};
 ghost use Rattle.kdf_director.specs.Fields.Halted.{stops_in};
-ghost use Rattle.kdf_director.specs.Halts.{halt_inside, halts, is_at, place_for};
+ghost use Rattle.kdf_director.specs.Halts.{halt_inside, halts, place_for};
 
-use crate::shown::registers_of;
-use crate::{Program, Progress, Yard};
-use kdf_processor::Registers;
+use crate::Progress;
+use kdf_yard::{Program, Yard, registers_of};
 
 /// Where calls stop before all are made.
 #[derive(Clone, Copy, Debug, PartialEq, Eq)]
@@ -56,55 +55,6 @@ impl Halt {
     }
 }
 
-/// Whether a place is looked for behind each order. The loop over the orders is compiled for each of the types that
-/// tell it, so that where none is looked for, no order pays for it.
-pub(crate) trait Seek {
-    ghost seeks: { Bool };
-
-    fn seeks() -> bool
-        ensures { result ≡ seeks };
-}
-
-/// No place is looked for.
-pub(crate) struct SeeksNone;
-
-impl Seek for SeeksNone {
-    ghost seeks = { false };
-
-    #[inline(always)]
-    fn seeks() -> bool {
-        false
-    }
-}
-
-/// A place is looked for, if there is one.
-pub(crate) struct SeeksPlace;
-
-impl Seek for SeeksPlace {
-    ghost seeks = { true };
-
-    #[inline(always)]
-    fn seeks() -> bool {
-        true
-    }
-}
-
-/// Whether a program with these registers is at a place, where one is looked for.
-#[inline(always)]
-pub(crate) fn is_at<S: Seek>(place: Option<u16>, registers: &Registers) -> bool
-    requires { S.seeks ≡ false → place ≡ None }
-    ensures { result ≡ is_at place registers.now }
-{
-    if S::seeks() {
-        match place {
-            Some(at) => registers.at == at,
-            None => false,
-        }
-    } else {
-        false
-    }
-}
-
 /// Whether calls stop where program `p` has obeyed an order.
 #[inline(always)]
 fn halts(halt: Halt, p: u8, programs: &[Program]) -> bool
@@ -121,15 +71,13 @@ fn halts(halt: Halt, p: u8, programs: &[Program]) -> bool
     }
 }
 
-impl Yard {
-    /// Whether calls stop after one that answered so.
-    #[inline(always)]
-    pub(crate) fn stops(&self, halt: Halt, progress: Progress) -> bool
-        ensures { result ≡ stops_in halt self.now progress }
-    {
-        match progress {
-            Progress::Ran(p) => halts(halt, p, &self.programs),
-            Progress::Held(_, _) | Progress::Idle | Progress::AllEnded => false,
-        }
+/// Whether calls stop after one that answered so.
+#[inline(always)]
+pub(crate) fn stops(yard: &Yard, halt: Halt, progress: Progress) -> bool
+    ensures { result ≡ stops_in halt yard.now progress }
+{
+    match progress {
+        Progress::Ran(p) => halts(halt, p, &yard.programs),
+        Progress::Held(_, _) | Progress::Idle | Progress::AllEnded => false,
     }
 }

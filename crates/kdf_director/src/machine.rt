@@ -18,7 +18,7 @@ ghost use Rattle.kdf_director.specs.Lends.{IsLent, IsStored, window_in};
 ghost use Rattle.kdf_director.specs.Halts.{HasMadeButTo, HasMadeTo};
 ghost use Rattle.kdf_theory.specs.Loading.{HaveImages, slots_of};
 ghost use Rattle.kdf_director.specs.Fields.Agrees.{IsReady};
-ghost use Rattle.kdf_director.specs.Fields.Standing.{shown_of};
+ghost use Rattle.kdf_director.specs.Fields.Viewed.{shown_of};
 ghost use Rattle.kdf_theory.specs.Next.{any_live};
 ghost use Rattle.kdf_director.specs.Runs.{HasMadeAtMost, HasMadeButFewer};
 ghost use Rattle.kdf_theory.specs.Served.{unasked, IsAnswered, IsTrueFor};
@@ -28,26 +28,23 @@ ghost use Rattle.kdf_theory.specs.Slots.{NoneServed};
 #[cfg(test)]
 mod fields;
 
-use crate::dispatch::window_of;
-use crate::halt::{Seek, SeeksNone, SeeksPlace};
-use crate::load::load_yard;
-use crate::moves::word_of;
-use crate::next::is_any_on;
-use crate::shown::{
-    device_in, is_claimed_in, registers_of, stint_in, stints_of, texts_of, window_given,
-};
-use crate::{Halt, Loaded, Place, Program, Yard};
+use crate::Halt;
+use crate::orders::orders;
 use kdf_job::Job;
 use kdf_journal::{CALL_LIMIT, Entry, Journal};
 use kdf_limits::EVENTS;
 use kdf_lockout::Store;
 use kdf_place::Image;
-use kdf_places::{cancel_all, end_at, move_at, transfer_in};
+use kdf_places::{Place, cancel_all, end_at, move_at, transfer_in};
 use kdf_processor::{Need, Registers, Spooled};
 use kdf_relocate::Window;
 use kdf_service::Service;
 use kdf_transfer::{Device, Transfer};
 use kdf_word::Word;
+use kdf_yard::{
+    Loaded, Program, Seek, SeeksNone, SeeksPlace, Yard, device_in, is_any_on, is_claimed_in,
+    load_yard, registers_of, stint_in, stints_of, texts_of, window_given, window_of, word_of,
+};
 use std::alloc::{AllocError, Global};
 use std::marker::Model;
 use std::mem;
@@ -229,7 +226,7 @@ impl Machine {
             places: mem::replace(&mut self.devices, Vec::new(self.alloc)),
         };
         let room = self.room;
-        let made = yard.orders::<F, S>(&mut self.journal, left, service, room, halt);
+        let made = orders::<F, S>(&mut yard, &mut self.journal, left, service, room, halt);
         // What stood in the fields meanwhile is empty and has no memory, so there is nothing to drop.
         let Yard {
             alloc: _,

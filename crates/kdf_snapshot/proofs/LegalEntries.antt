@@ -42,7 +42,7 @@ use Rattle.kdf_theory.specs.Served.{IsJournalFor, is_served, is_true_for}
 use Rattle.kdf_theory.specs.Slots.{AreSlots, slot_of, start, start_of}
 use Rattle.kdf_theory.specs.True.{one_if}
 use Rattle.kdf_theory.specs.World.{first_need, need_of}
-use Rattle.kdf_director.specs.Fields.Going.{IsNearHold}
+use Rattle.kdf_yard.specs.Fields.Going.{IsNearHold}
 use Rattle.kdf_theory.proofs.Course.CountsBounded.{few-calls}
 use Rattle.kdf_theory.proofs.Course.DevicesHeld.{IsFixed, fixed}
 use Rattle.kdf_director.proofs.Course.HoldsInside.{legal-near, size_of}

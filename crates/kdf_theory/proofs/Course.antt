@@ -1,6 +1,7 @@
 -- What a journal tells of the programs, and what its steps make of that.
 pub mod CountsBounded
 pub mod DevicesHeld
+pub mod EqualFutures
 pub mod EventsInTurn
 pub mod FlightsAdded
 pub mod FlightsOnCourse

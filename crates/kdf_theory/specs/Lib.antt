@@ -14,4 +14,5 @@ pub mod Served
 pub mod Shown
 pub mod Slots
 pub mod True
+pub mod Unasked
 pub mod World

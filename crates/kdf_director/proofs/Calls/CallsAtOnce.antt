@@ -1,7 +1,6 @@
 -- A yard and its journal after calls that are made at once.
 use Rattle.std.specs.Prelude.{Result, Ok, Err, OnErr, IfOk}
-use Rattle.std.specs.List.{list_any}
-use Rattle.std.proofs.Common.{◌≡◌, ℕ, zero, suc, ◌+◌, ◌<◌, ◌≤◌, Bool, true, false, ◌||◌, List, [], ◌∷◌, get_or, map, set, Option, Some, None, cond, refl, sym}
+use Rattle.std.proofs.Common.{◌≡◌, ℕ, zero, suc, ◌+◌, ◌<◌, ◌≤◌, Bool, true, false, List, get_or, set, Option, Some, None, cond, refl, sym}
 use Rattle.std.proofs.Common.{ap, ap₂, ◌∙◌, subst, arith}
 use Rattle.std.proofs.lemmas.Bool.{false≢true}
 use Rattle.std.proofs.lemmas.List.{set-get_or}
@@ -20,18 +19,20 @@ use Rattle.kdf_processor.specs.declared.step.Step.TheVariants as step
 use Rattle.kdf_processor.specs.Lone.{is_live}
 use Rattle.kdf_director.specs.declared.machine.Progress.{Progress}
 use Rattle.kdf_director.specs.declared.machine.Progress.TheVariants as progress
-use Rattle.kdf_director.specs.declared.note.Note.{Note}
-use Rattle.kdf_director.specs.declared.note.Note.TheVariants as note
-use Rattle.kdf_director.specs.Fields.Agrees.{Agrees, AreLent, IsReady}
+use Rattle.kdf_yard.specs.declared.note.Note.{Note}
+use Rattle.kdf_yard.specs.declared.note.Note.TheVariants as note
+use Rattle.kdf_director.specs.Fields.Agrees.{Agrees, IsReady}
+use Rattle.kdf_yard.specs.Fields.Running.{AreLent}
 use Rattle.kdf_director.specs.declared.halt.Halt.{Halt}
 use Rattle.kdf_director.specs.declared.halt.Halt.TheVariants.{Each}
-use Rattle.kdf_director.specs.Halts.{is_at, place_for, ArePassed, HasMadeSomePast, HasPassedButFewer}
-use Rattle.kdf_director.specs.Fields.Batches.{of_seats, AreQuiet, HasBatch, HasTriedOn, Passes}
-use Rattle.kdf_director.specs.Fields.Parts.{Seat}
-use Rattle.kdf_director.specs.Fields.Standing.{Standing, shown_of, IsSameYard}
+use Rattle.kdf_yard.specs.Fields.Batches.{is_at, of_seats, AreQuiet, HasBatch, HasTriedOn, Passes}
+use Rattle.kdf_director.specs.Halts.{place_for, ArePassed, HasMadeSomePast, HasPassedButFewer}
+use Rattle.kdf_yard.specs.Fields.Parts.{Seat}
+use Rattle.kdf_yard.specs.Fields.Standing.{Standing, IsSameYard}
+use Rattle.kdf_director.specs.Fields.Viewed.{shown_of}
 use Rattle.kdf_theory.specs.World.{hold_left}
 use Rattle.kdf_director.specs.Fields.TurnTaken.{step_told}
-use Rattle.kdf_director.specs.Fields.Yards.{any_in, first_in, hold_in, number_in, registers_in, AreLentIn, AreNear, AreOfFour, HasTriedIn, HasTriedQuietly}
+use Rattle.kdf_yard.specs.Fields.Yards.{any_in, first_in, hold_in, number_in, registers_in, AreLentIn, AreNear, AreOfFour, HasTriedIn, HasTriedQuietly}
 use Rattle.kdf_theory.specs.Next.{any_live}
 use Rattle.kdf_director.specs.Runs.{HasEntered, HasMadeOn, IsEntered, held_after}
 use Rattle.kdf_theory.specs.InARow.{ran_on, waited_on}
@@ -41,7 +42,7 @@ use Rattle.kdf_director.proofs.Calls.CallsAfterCalls.{made_none}
 use Rattle.kdf_director.proofs.Calls.GoingFurther.{going_further}
 use Rattle.kdf_director.proofs.Calls.Halting.{passed_none}
 use Rattle.kdf_director.proofs.Calls.OrdersPassed.{passing_further, passing_one}
-use Rattle.kdf_director.proofs.Turns.Batching.{quiet_map}
+use Rattle.kdf_yard.proofs.Turns.Batching.{quiet_map}
 use Rattle.kdf_director.proofs.Calls.NoneGoesOn.{waiting, waiting_some}
 use Rattle.kdf_director.proofs.Calls.OneCall.{moves-took}
 use Rattle.kdf_theory.proofs.Course.OrdersInARow.{calls-ran_on, holder-ran_on, moves-ran_on, moves-waited_on, some-waited_on}
@@ -76,10 +77,6 @@ entered_within J K p quiet ran most hold held (Err t) (Err e) has left = tt
 pub waits_within : (b : Bool) (most : ℕ) → 0 < most → (cond {A = ℕ × Progress} b (most, progress.Idle) (1, progress.AllEnded)).0 ≤ most
 waits_within true most some = omega arith
 waits_within false most some = some
-
-pub any_map : {X Y : Type 0} (h : X → Y) (f : Y → Bool) (xs : List X) → list_any (λ x. f (h x)) xs ≡ list_any f (map h xs)
-any_map h f [] = refl
-any_map h f (x ∷ xs) = ap (λ b. f (h x) || b) (any_map h f xs)
 
 -- program i of the yard has obeyed n orders of which nothing is noted and after which calls don't stop, and so the yard
 -- stands then

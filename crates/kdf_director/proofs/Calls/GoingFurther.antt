@@ -3,11 +3,11 @@ use Rattle.std.proofs.Common.{◌≡◌, ℕ, zero, suc, ◌+◌, ◌≤◌, Lis
 use Rattle.kdf_journal.specs.declared.entry.Entry.{Entry}
 use Rattle.kdf_journal.specs.declared.journal.TheConstants.{CALL_LIMIT}
 use Rattle.kdf_journal.specs.Counts.{calls, clock}
-use Rattle.kdf_director.specs.Fields.Batches.{AreQuiet, HasTriedOn}
-use Rattle.kdf_director.specs.Fields.Parts.{Seat}
+use Rattle.kdf_yard.specs.Fields.Batches.{AreQuiet, HasTriedOn}
+use Rattle.kdf_yard.specs.Fields.Parts.{Seat}
 use Rattle.kdf_places.specs.Shared.{Shared}
-use Rattle.kdf_director.specs.Fields.Standing.{Standing}
-use Rattle.kdf_director.specs.Fields.Yards.{number_in}
+use Rattle.kdf_yard.specs.Fields.Standing.{Standing}
+use Rattle.kdf_yard.specs.Fields.Yards.{number_in}
 use Rattle.kdf_director.proofs.Calls.ProgramGoesOn.{IsGoingOn, going_on}
 use Rattle.kdf_theory.proofs.Course.OrdersInARow.{calls-ran_on}
 

@@ -7,8 +7,8 @@ use Rattle.kdf_journal.specs.declared.journal.TheConstants.{CALL_LIMIT}
 use Rattle.kdf_journal.specs.Counts.{calls, priorities}
 use Rattle.kdf_director.specs.declared.machine.Progress.TheVariants as progress
 use Rattle.kdf_director.specs.Fields.Agrees.{Agrees}
-use Rattle.kdf_director.specs.Fields.Standing.{Standing}
-use Rattle.kdf_director.specs.Fields.Yards.{first_in}
+use Rattle.kdf_yard.specs.Fields.Standing.{Standing}
+use Rattle.kdf_yard.specs.Fields.Yards.{first_in}
 use Rattle.kdf_theory.specs.Next.{any_live, next}
 use Rattle.kdf_director.specs.Halts.{ArePassed, HasMadeSomePast, HasPassed}
 use Rattle.kdf_director.specs.Runs.{HasMadeOn}

@@ -3,7 +3,7 @@ use Rattle.std.specs.Option.{option_map}
 use Rattle.std.proofs.Common.{◌≡◌, ℕ, zero, suc, ◌+◌, ◌<◌, ◌≤◌, Bool, true, false, ◌&&◌, eqb, List, length, Option, Some, None, cond, refl, sym, ap, ◌∙◌, subst}
 use Rattle.std.proofs.Common.{arith}
 use Rattle.kdf_processor.specs.declared.step.Step.{Step}
-use Rattle.kdf_director.specs.declared.note.Note.{Note}
+use Rattle.kdf_yard.specs.declared.note.Note.{Note}
 use Rattle.kdf_journal.specs.declared.entry.Entry.{Entry}
 use Rattle.kdf_journal.specs.declared.journal.TheConstants.{CALL_LIMIT}
 use Rattle.kdf_journal.specs.Counts.{calls, clock}
@@ -13,15 +13,15 @@ use Rattle.kdf_processor.specs.State.{State}
 use Rattle.kdf_director.specs.declared.halt.Halt.{Halt}
 use Rattle.kdf_director.specs.declared.halt.Halt.TheVariants.{Never, Each, At}
 use Rattle.kdf_director.specs.declared.machine.Progress.TheVariants as progress
-use Rattle.kdf_director.specs.declared.note.Note.TheVariants.{Quiet}
-use Rattle.kdf_director.specs.Fields.Batches.{of_seats, AreQuiet, HasTriedOn, Passes}
+use Rattle.kdf_yard.specs.declared.note.Note.TheVariants.{Quiet}
+use Rattle.kdf_yard.specs.Fields.Batches.{of_seats, AreQuiet, HasTriedOn, Passes, is_at}
 use Rattle.kdf_director.specs.Fields.Following.{asked_at}
-use Rattle.kdf_director.specs.Fields.Parts.{Seat}
-use Rattle.kdf_director.specs.Fields.Running.{own_state, seat_at, IsRunning}
-use Rattle.kdf_director.specs.Fields.Standing.{Standing}
-use Rattle.kdf_director.specs.Fields.Yards.{number_in}
-use Rattle.kdf_director.specs.Halts.{halts, is_at, place_for, stops, ArePassed, HasPassed, IsPassed}
-use Rattle.kdf_director.specs.Runs.{HasTriedAt}
+use Rattle.kdf_yard.specs.Fields.Parts.{Seat}
+use Rattle.kdf_yard.specs.Fields.Running.{own_state, seat_at, IsRunning}
+use Rattle.kdf_yard.specs.Fields.Standing.{Standing}
+use Rattle.kdf_yard.specs.Fields.Yards.{number_in}
+use Rattle.kdf_director.specs.Halts.{halts, place_for, stops, ArePassed, HasPassed, IsPassed}
+use Rattle.kdf_yard.specs.Fields.Turned.{HasTriedAt}
 use Rattle.kdf_theory.specs.InARow.{ran_on}
 use Rattle.kdf_places.specs.Shared.{Shared}
 use Rattle.kdf_theory.specs.Shown.{Shown}
@@ -32,7 +32,7 @@ use Rattle.kdf_director.proofs.Calls.ProgramGoesOn.{IsGoingOn, next_advanced, nu
 use Rattle.kdf_director.proofs.Linking.EventsEntered.{shows}
 use Rattle.kdf_director.proofs.Linking.OwnStates.{state_is}
 use Rattle.kdf_director.proofs.Linking.TurnTaken.{shown}
-use Rattle.kdf_director.proofs.Turns.Batching.{quiet_map}
+use Rattle.kdf_yard.proofs.Turns.Batching.{quiet_map}
 
 -- a program that isn't at the place that is looked for
 away : (k at p : ℕ) (r : Registers) → is_at (place_for (At k at) p) r ≡ false → halts (At k at) p (Some r) ≡ false

@@ -14,25 +14,25 @@ use Rattle.kdf_transfer.specs.Slots.{Slot}
 use Rattle.kdf_course.specs.World as course
 use Rattle.kdf_director.specs.declared.machine.Progress.{Progress}
 use Rattle.kdf_director.specs.declared.machine.Progress.TheVariants as progress
-use Rattle.kdf_director.specs.declared.note.Note.{Note as Noted}
-use Rattle.kdf_director.specs.declared.note.Note.TheVariants as noted
+use Rattle.kdf_yard.specs.declared.note.Note.{Note as Noted}
+use Rattle.kdf_yard.specs.declared.note.Note.TheVariants as noted
 use Rattle.kdf_director.specs.Fields.Agrees.{Agrees}
-use Rattle.kdf_director.specs.Fields.Yards.{number_in}
+use Rattle.kdf_yard.specs.Fields.Yards.{number_in}
 use Rattle.kdf_theory.specs.Next.{lives, next}
-use Rattle.kdf_director.specs.Fields.Parts.{Reach, Seat}
+use Rattle.kdf_yard.specs.Fields.Parts.{Reach, Seat}
 use Rattle.kdf_places.specs.Shared.{Shared}
 use Rattle.kdf_director.specs.Progressed.{found_live}
-use Rattle.kdf_director.specs.Fields.Running.{seat_at, IsRunning}
+use Rattle.kdf_yard.specs.Fields.Running.{seat_at, IsRunning}
 use Rattle.kdf_director.specs.declared.halt.Halt.{Halt}
 use Rattle.kdf_director.specs.Halts.{ArePassed, HasMadeSomePast}
-use Rattle.kdf_director.specs.Runs.{HasMadeOn, HasTriedAt}
+use Rattle.kdf_director.specs.Runs.{HasMadeOn}
+use Rattle.kdf_yard.specs.Fields.Turned.{HasTriedAt, HasTurned}
 use Rattle.kdf_theory.specs.InARow.{ran_on}
-use Rattle.kdf_director.specs.Fields.Shared.{moment}
+use Rattle.kdf_yard.specs.Fields.Shared.{moment}
 use Rattle.kdf_theory.specs.Shown.{Shown, state_at, world_of}
-use Rattle.kdf_director.specs.Fields.Standing.{Standing}
+use Rattle.kdf_yard.specs.Fields.Standing.{Standing}
 use Rattle.kdf_director.specs.Fields.TurnTaken.{HasTaken, progress_of, step_told}
 use Rattle.kdf_theory.specs.World.{hold_left}
-use Rattle.kdf_director.specs.Fields.Turned.{HasTurned}
 use Rattle.kdf_director.proofs.Calls.CallsAfterCalls.{made_more}
 use Rattle.kdf_director.proofs.Linking.NextPrograms.{few_ran, live_same}
 use Rattle.kdf_theory.proofs.Course.OrdersInARow.{clock-ran_on}

@@ -11,7 +11,7 @@ use Rattle.kdf_processor.specs.declared.step.Need.{Need}
 use Rattle.kdf_processor.specs.Needs.{needs}
 use Rattle.kdf_transfer.specs.Slots.{Slot}
 use Rattle.kdf_processor.proofs.RowFacts.{size_lone}
-use Rattle.kdf_director.specs.Fields.Going.{IsNearHold}
+use Rattle.kdf_yard.specs.Fields.Going.{IsNearHold}
 use Rattle.kdf_theory.specs.Legal.{EachMeets, IsLegal}
 use Rattle.kdf_theory.specs.Slots.{start}
 use Rattle.kdf_theory.specs.ByJournal.{is_pending_after, lone_world, mine_after, own}

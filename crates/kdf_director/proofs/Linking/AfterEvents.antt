@@ -15,14 +15,15 @@ use Rattle.kdf_director.specs.declared.machine.Machine.TheInside.{Inside}
 use Rattle.kdf_director.specs.Advance.{OthersStay}
 use Rattle.kdf_director.specs.Fields.Agrees.{Agrees, IsReady}
 use Rattle.kdf_director.specs.Fields.Machines.{stands, IsMachine}
-use Rattle.kdf_director.specs.Fields.Parts.{Reach, Seat}
-use Rattle.kdf_director.specs.Fields.Running.{reaches_in, seats_in, IsRunning}
-use Rattle.kdf_director.specs.Fields.Standing.{Standing, shown_of, standing, IsYard}
+use Rattle.kdf_yard.specs.Fields.Parts.{Reach, Seat}
+use Rattle.kdf_yard.specs.Fields.Running.{reaches_in, seats_in, IsRunning}
+use Rattle.kdf_yard.specs.Fields.Standing.{Standing, standing, IsYard}
+use Rattle.kdf_director.specs.Fields.Viewed.{shown_of}
 use Rattle.kdf_theory.specs.Shown.{Shown, entered}
 use Rattle.kdf_director.proofs.Linking.EventsEntered.{ended, entered_more, moved, ready_more, shown_seen, exchanged, timed}
 use Rattle.kdf_director.proofs.Course.OthersStay.{stay-ended, stay-exchanged, stay-moved, stay-timed}
-use Rattle.kdf_director.proofs.Turns.FlightsMove.{back, ended_running, flown_running}
-use Rattle.kdf_director.proofs.Turns.TurnsShow.{share}
+use Rattle.kdf_yard.proofs.Turns.FlightsMove.{back, ended_running, flown_running}
+use Rattle.kdf_yard.proofs.Turns.TurnsShow.{share}
 
 -- a transfer on device d moves or ends in the fields of a machine: what is shared changes, and the programs stay
 module _ (m : Inside) (is : IsMachine m) (d : ℕ) (lt : d < 16) where

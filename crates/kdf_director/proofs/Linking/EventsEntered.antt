@@ -1,6 +1,6 @@
 -- A machine in which an event is entered stays as a machine is.
 use Rattle.std.specs.Option.{option_map}
-use Rattle.std.proofs.Common.{◌≡◌, ℕ, ◌+◌, ◌-◌, ◌<◌, ◌≤◌, List, [], ◌∷◌, length, map, Option, refl, sym, ap, ◌∙◌, subst, arith}
+use Rattle.std.proofs.Common.{◌≡◌, ℕ, ◌+◌, ◌-◌, ◌<◌, ◌≤◌, List, length, map, Option, refl, sym, ap, ◌∙◌, subst, arith}
 use Rattle.std.proofs.Math.Path.{fun_ext}
 use Rattle.std.proofs.lemmas.List.{ext_get_or, get_or-map, length-map}
 use Rattle.std.proofs.lemmas.List.FromFn.{length-map-range_with_len, get_or-map-range_with_len}
@@ -13,27 +13,23 @@ use Rattle.kdf_journal.proofs.Added.{calls_by, calls-added, hold_by, holder-quie
 use Rattle.kdf_transfer.specs.Slots.{Slot}
 use Rattle.kdf_processor.specs.State.{State}
 use Rattle.kdf_processor.specs.declared.step.Need.{Need}
-use Rattle.kdf_director.specs.Fields.Agrees.{Agrees, AreLent, IsReady}
+use Rattle.kdf_director.specs.Fields.Agrees.{Agrees, IsReady}
+use Rattle.kdf_yard.specs.Fields.Running.{AreLent, no_seat, own_state, IsRunning}
 use Rattle.kdf_director.specs.Fields.Following.{AreFollowing, asked_at}
 use Rattle.kdf_theory.specs.Legal.{Meets}
 use Rattle.kdf_transfer.specs.ByNumber.{device_count}
-use Rattle.kdf_director.specs.Fields.Parts.{Reach, Seat}
+use Rattle.kdf_yard.specs.Fields.Parts.{Reach, Seat}
 use Rattle.kdf_places.specs.Shared.{Shared}
-use Rattle.kdf_director.specs.Fields.Running.{no_seat, own_state, IsRunning}
 use Rattle.kdf_places.specs.Transfers.{after_end, after_move}
 use Rattle.kdf_theory.specs.Shown.{entered, states_seen}
-use Rattle.kdf_director.specs.Fields.Viewed.{states_in}
-use Rattle.kdf_director.specs.Fields.Standing.{Standing, shown_of}
+use Rattle.kdf_director.specs.Fields.Viewed.{states_in, shown_of}
+use Rattle.kdf_yard.specs.Fields.Standing.{Standing}
 use Rattle.kdf_theory.specs.ByJournal.{lone_world, seen_of}
 use Rattle.kdf_theory.specs.World.{need_of}
-use Rattle.kdf_director.proofs.Turns.FlightsMove.{ended_running, flown_running}
+use Rattle.kdf_yard.proofs.Turns.FlightsMove.{ended_running, flown_running}
 use Rattle.kdf_director.proofs.Linking.EventsFollowed.{ended_follows, flown_follows, exchanged_follows, set_follows}
 use Rattle.kdf_theory.proofs.Course.WorldsJudged.{legal_added, true_added}
 use Rattle.kdf_transfer.proofs.Numbers.{limit_is}
-
-pub map_twice : {X Y Z : Type 0} (f : Y → Z) (g : X → Y) (xs : List X) → map f (map g xs) ≡ map (λ x. f (g x)) xs
-map_twice f g [] = refl
-map_twice f g (x ∷ xs) = ap (λ ys. f (g x) ∷ ys) (map_twice f g xs)
 
 -- ---- what is shown
 module _ (slots : List Slot) (reaches : List Reach) (seats : List Seat) (s : Shared) (J : List Entry) (a : Agrees slots reaches seats s J) where

@@ -15,12 +15,12 @@ use Rattle.kdf_theory.specs.Seen.{seen}
 use Rattle.kdf_theory.specs.Slots.{AreSlots}
 use Rattle.kdf_theory.specs.ByJournal.{own, seen_of}
 use Rattle.kdf_places.specs.Spots.{Held, Spot, no_spot, spot_at}
-use Rattle.kdf_director.specs.Fields.Parts.{Part, Seat, Reach}
+use Rattle.kdf_yard.specs.Fields.Parts.{Part, Seat, Reach}
 use Rattle.kdf_places.specs.Shared.{Shared}
 use Rattle.kdf_places.specs.Transfers.{after_move, moved_held, moved_spot, after_end, ended_spot, ended_by}
-use Rattle.kdf_director.specs.Fields.Running.{seat_at, part_at, own_state, IsRunning}
+use Rattle.kdf_yard.specs.Fields.Running.{seat_at, part_at, own_state, IsRunning}
 use Rattle.kdf_director.specs.Fields.Following.{IsFollowing, AreFollowing, asked_at}
-use Rattle.kdf_director.proofs.Turns.FlightsMove.{flown_own, ended_state}
+use Rattle.kdf_yard.proofs.Turns.FlightsMove.{flown_own, ended_state}
 use Rattle.kdf_theory.proofs.Course.LegalFacts.{legal_asked}
 use Rattle.kdf_director.proofs.Linking.TransfersLinked.{follow_move, follow_end, follow_quiet}
 use Rattle.kdf_theory.proofs.Course.FlightsOnCourse.{IsOnCourse, flights-quiet, legal-course}

@@ -23,34 +23,32 @@ use Rattle.kdf_processor.specs.State.{State, fixture_at, is_pooled, lending_of, 
 use Rattle.kdf_director.specs.Fields.Agrees.{IsReady}
 use Rattle.kdf_director.specs.Fields.Machines.{shown, stands, IsMachine}
 use Rattle.kdf_director.specs.declared.machine.Machine.TheInside.{Inside}
-use Rattle.kdf_director.specs.Fields.Filled.{loaded, pool_in}
+use Rattle.kdf_yard.specs.Fields.Filled.{loaded, pool_in, slot_loaded}
 use Rattle.kdf_director.specs.Fields.Following.{asked_at}
-use Rattle.kdf_director.specs.Fields.Going.{any_on}
+use Rattle.kdf_yard.specs.Fields.Going.{any_on}
 use Rattle.kdf_director.specs.Lends.{IsLent, IsStored, window_in}
 use Rattle.kdf_theory.specs.Next.{any_live}
-use Rattle.kdf_director.specs.Fields.Owners.{HasLent, IsDeviceOwned, IsTold, is_claimed_by, owner_in}
-use Rattle.kdf_director.specs.Fields.Parts.{Reach, Seat, own_stock, seat_of, window_at}
+use Rattle.kdf_yard.specs.Fields.Owners.{HasLent, IsDeviceOwned, IsTold, is_claimed_by, owner_in}
+use Rattle.kdf_yard.specs.Fields.Parts.{Reach, Seat, own_stock, seat_of, window_at}
 use Rattle.kdf_places.specs.Shared.{Shared, shared_in}
 use Rattle.kdf_places.specs.Words.{word_at_place}
-use Rattle.kdf_director.specs.Fields.Running.{own_state, part_at, reach_at, reaches_in, seat_at, seats_in}
+use Rattle.kdf_yard.specs.Fields.Running.{own_state, part_at, reach_at, reaches_in, seat_at, seats_in}
 use Rattle.kdf_theory.specs.Shown.{IsDeviceAt, Shown, state_of}
-use Rattle.kdf_director.specs.Fields.Viewed.{slot_loaded}
 use Rattle.kdf_theory.specs.Slots.{slot_of}
 use Rattle.kdf_places.specs.Spots.{Held, leases_of, spot_at, spot_of}
 use Rattle.kdf_places.specs.declared.place.Place.{Place}
-use Rattle.kdf_director.specs.declared.program.Program.{Program}
-use Rattle.kdf_director.specs.declared.slot.Loaded.{Loaded}
-use Rattle.kdf_director.proofs.Linking.FoundByNumber.{find_map}
-use Rattle.kdf_director.proofs.Calls.CallsAtOnce.{any_map}
+use Rattle.kdf_yard.specs.declared.program.Program.{Program}
+use Rattle.kdf_yard.specs.declared.slot.Loaded.{Loaded}
+use Rattle.kdf_theory.proofs.Lists.{find_map, any_map}
 use Rattle.kdf_director.proofs.Linking.MachineLends.{below, in_store, lent, stored, windows_same, word_own}
 use Rattle.kdf_director.proofs.Linking.NextPrograms.{any_same}
 use Rattle.kdf_director.proofs.Linking.OwnDevices.{claimed_none, claimed_own, claimed_pooled, device_none, device_own}
 use Rattle.kdf_director.proofs.Linking.OwnStates.{found_state, none_state, told_of}
-use Rattle.kdf_director.proofs.Physical.StintsShown.{stint_in_own, there_lent_any}
-use Rattle.kdf_director.specs.Fields.Keeping.{IsKept}
-use Rattle.kdf_director.specs.Fields.Stints.{Keeping, is_lent, keeping_of, no_keeping, stint_of}
+use Rattle.kdf_yard.proofs.Physical.StintsShown.{stint_in_own, there_lent_any}
+use Rattle.kdf_yard.specs.Fields.Keeping.{IsKept}
+use Rattle.kdf_yard.specs.Fields.Stints.{Keeping, is_lent, keeping_of, no_keeping, stint_of}
 use Rattle.kdf_processor.specs.Stints.{IsStint}
-use Rattle.kdf_director.specs.declared.stint.Stint.{Stint}
+use Rattle.kdf_yard.specs.declared.stint.Stint.{Stint}
 use Rattle.kdf_transfer.proofs.Numbers.{limit_is}
 
 -- what holds of a state that is there

@@ -7,16 +7,17 @@ use Rattle.kdf_processor.specs.State.{State}
 use Rattle.kdf_director.specs.declared.halt.Halt.{Halt}
 use Rattle.kdf_director.specs.declared.machine.Progress.{Progress}
 use Rattle.kdf_director.specs.declared.machine.Progress.TheVariants as progress
-use Rattle.kdf_director.specs.declared.program.Program.{Program}
+use Rattle.kdf_yard.specs.declared.program.Program.{Program}
 use Rattle.kdf_director.specs.Fields.Agrees.{IsReady}
 use Rattle.kdf_director.specs.Fields.Halted.{stops_in}
-use Rattle.kdf_director.specs.Fields.Parts.{Seat, seat_of}
+use Rattle.kdf_yard.specs.Fields.Parts.{Seat, seat_of}
 use Rattle.kdf_director.specs.Fields.Following.{asked_at}
-use Rattle.kdf_director.specs.Fields.Running.{own_state, seats_in, seat_at}
-use Rattle.kdf_director.specs.Fields.Standing.{Standing, shown_of}
+use Rattle.kdf_yard.specs.Fields.Running.{own_state, seats_in, seat_at}
+use Rattle.kdf_yard.specs.Fields.Standing.{Standing}
+use Rattle.kdf_director.specs.Fields.Viewed.{shown_of}
 use Rattle.kdf_director.specs.Halts.{halts, stops}
 use Rattle.kdf_director.proofs.Linking.FieldsShow.{twice}
-use Rattle.kdf_director.proofs.Linking.FoundByNumber.{find_map}
+use Rattle.kdf_theory.proofs.Lists.{find_map}
 use Rattle.kdf_director.proofs.Linking.OwnStates.{told_of}
 
 -- the registers of the program of a slot

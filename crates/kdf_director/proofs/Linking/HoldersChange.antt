@@ -7,10 +7,10 @@ use Rattle.kdf_journal.specs.Steps.{Note, Obeys, Took, Gave, added}
 use Rattle.kdf_journal.proofs.Added.{ends_by, over-added, taker_by, taker-added}
 use Rattle.kdf_processor.specs.declared.step.Step.{Step as Ending}
 use Rattle.kdf_processor.specs.declared.step.Step.TheVariants as ending
-use Rattle.kdf_director.specs.declared.note.Note.{Note as Noted}
-use Rattle.kdf_director.specs.declared.note.Note.TheVariants as noted
+use Rattle.kdf_yard.specs.declared.note.Note.{Note as Noted}
+use Rattle.kdf_yard.specs.declared.note.Note.TheVariants as noted
 use Rattle.kdf_director.specs.Advance.{note_beside, note_told}
-use Rattle.kdf_director.specs.Fields.Settled.{holder_left, holder_over}
+use Rattle.kdf_yard.specs.Fields.Settled.{holder_left, holder_over}
 
 -- the order of a program that goes on leaves which programs are over
 going-on : (p d : ℕ) (J : List Entry) (note : Note) → ((q : ℕ) → ends_by q (Obeys p note) ≡ false)

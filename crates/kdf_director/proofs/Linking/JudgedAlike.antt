@@ -22,7 +22,7 @@ use Rattle.kdf_transfer.specs.Slots.{Slot}
 use Rattle.kdf_processor.specs.State.{State}
 use Rattle.kdf_transfer.specs.ByNumber.{device_count}
 use Rattle.kdf_processor.specs.View.{groups_of, is_pending}
-use Rattle.kdf_director.specs.declared.moment.Moment.{Moment}
+use Rattle.kdf_yard.specs.declared.moment.Moment.{Moment}
 use Rattle.kdf_theory.specs.Flights.{Flight, touches}
 use Rattle.kdf_theory.specs.Seen.{touched_below}
 use Rattle.kdf_theory.specs.ByJournal.{flights_of, is_free_after, is_pending_after, mine_after, own, seen_of, seen_world, free_after}
@@ -31,17 +31,16 @@ use Rattle.kdf_theory.specs.True.{known}
 use Rattle.kdf_theory.specs.World.{first_need}
 use Rattle.kdf_places.specs.Words.{has_group}
 use Rattle.kdf_places.specs.Spots.{Held, Spot, no_spot, spot_at, is_of, lease_held, leases_of, own_from}
-use Rattle.kdf_director.specs.Fields.Parts.{Part, Seat, Reach, is_lent_by}
+use Rattle.kdf_yard.specs.Fields.Parts.{Part, Seat, Reach, is_lent_by}
 use Rattle.kdf_places.specs.Shared.{Shared}
-use Rattle.kdf_director.specs.Fields.Agrees.{AreLent}
-use Rattle.kdf_director.specs.Fields.Shared.{view, free_in, is_free_in, moment, setting}
-use Rattle.kdf_director.specs.Fields.Sound.{IsFlightOf}
-use Rattle.kdf_director.specs.Fields.Running.{seat_at, part_at, own_state, hold_of, answers_at, IsHeld, IsRunning}
+use Rattle.kdf_yard.specs.Fields.Running.{AreLent, seat_at, part_at, own_state, hold_of, answers_at, IsHeld, IsRunning}
+use Rattle.kdf_yard.specs.Fields.Shared.{view, free_in, is_free_in, moment, setting}
+use Rattle.kdf_yard.specs.Fields.Sound.{IsFlightOf}
 use Rattle.kdf_director.specs.Fields.Following.{IsLink, Linked, IsFollowing, AreFollowing, asked_at}
 use Rattle.kdf_theory.proofs.Seen.NeedsInside.{IsInside, IsNear, AreNear, needs_near, near_area, find_near, any_near}
 use Rattle.kdf_director.proofs.Linking.TransfersLinked.{linked_own}
 use Rattle.kdf_theory.proofs.Course.FlightsOnCourse.{IsOnCourse}
-use Rattle.kdf_director.proofs.Turns.OneOrder.{numbers_apart}
+use Rattle.kdf_yard.proofs.Turns.OneOrder.{numbers_apart}
 use Rattle.kdf_journal.specs.declared.kind.Kind.{Kind}
 use Rattle.kdf_processor.proofs.Frees.{none_of_kind}
 use Rattle.kdf_processor.proofs.RowFacts.{pool_lone}

@@ -25,26 +25,26 @@ use Rattle.kdf_theory.specs.Flights.{Flight, touches}
 use Rattle.kdf_theory.specs.Flying.{IfFlight}
 use Rattle.kdf_director.specs.Fields.Following.{IsLink, Linked, asked_at}
 use Rattle.kdf_director.specs.Lends.{IsBegun, IsFlight, IsLent, IsStored, place_of, size_in, windows_in}
-use Rattle.kdf_director.specs.Fields.Filled.{loaded, size_at, sizes_of}
-use Rattle.kdf_director.specs.Fields.Parts.{Part, Reach, Seat, reach_of, window_at}
+use Rattle.kdf_yard.specs.Fields.Filled.{loaded, size_at, sizes_of, slot_loaded}
+use Rattle.kdf_yard.specs.Fields.Parts.{Part, Reach, Seat, reach_of, window_at}
 use Rattle.kdf_places.specs.Shared.{Shared}
 use Rattle.kdf_places.specs.Words.{has_group, word_at_place, word_where}
-use Rattle.kdf_director.specs.Fields.Running.{no_seat, own_state, part_at, reach_at, reaches_in, seat_at}
+use Rattle.kdf_yard.specs.Fields.Running.{no_seat, own_state, part_at, reach_at, reaches_in, seat_at}
 use Rattle.kdf_theory.specs.Shown.{Shown, state_of}
-use Rattle.kdf_director.specs.Fields.Viewed.{slot_loaded, states_in}
+use Rattle.kdf_director.specs.Fields.Viewed.{states_in}
 use Rattle.kdf_theory.specs.Seen.{touched_below}
-use Rattle.kdf_director.specs.Fields.Sound.{IsFlightOf}
+use Rattle.kdf_yard.specs.Fields.Sound.{IsFlightOf}
 use Rattle.kdf_places.specs.Spots.{Held, Spot, lease_held, leases_of, no_spot, spot_at}
 use Rattle.kdf_theory.specs.ByJournal.{flight_by, flight_of, flights_of, own, own_after}
-use Rattle.kdf_director.specs.declared.slot.Loaded.{Loaded}
-use Rattle.kdf_director.proofs.Linking.EventsEntered.{map_twice}
+use Rattle.kdf_yard.specs.declared.slot.Loaded.{Loaded}
+use Rattle.kdf_theory.proofs.Lists.{map_twice}
 use Rattle.kdf_director.proofs.Linking.JudgedAlike.{group_same, some_lease}
 use Rattle.kdf_director.proofs.Linking.TransfersLinked.{count_is, linked_own}
 use Rattle.kdf_theory.proofs.Course.FlightsOnCourse.{legal-course}
 use Rattle.kdf_director.proofs.Linking.OwnStates.{program_is, state_is}
 use Rattle.kdf_places.proofs.WordsHereAndOut.{word_out_one, here_word}
-use Rattle.kdf_director.proofs.Physical.PartsShow.{none_kind}
-use Rattle.kdf_director.proofs.Turns.AfterTheTry.{word_shown}
+use Rattle.kdf_yard.proofs.Physical.PartsShow.{none_kind}
+use Rattle.kdf_yard.proofs.Turns.AfterTheTry.{word_shown}
 use Rattle.kdf_limits.specs.declared.store.TheConstants.{DIRECTOR_WORDS}
 
 -- ---- windows

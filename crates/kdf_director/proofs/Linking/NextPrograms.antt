@@ -17,17 +17,17 @@ use Rattle.kdf_transfer.specs.Slots.{Slot}
 use Rattle.kdf_processor.specs.State.{State}
 use Rattle.kdf_director.specs.Fields.Agrees.{Agrees}
 use Rattle.kdf_director.specs.Fields.Following.{asked_at}
-use Rattle.kdf_director.specs.Fields.Going.{first_going, goes_at, hold_at, if_goes, is_stopped, or_else, place_of, AreNearHolds, IsNearHold}
+use Rattle.kdf_yard.specs.Fields.Going.{first_going, goes_at, hold_at, if_goes, is_stopped, or_else, place_of, AreNearHolds, IsNearHold}
 use Rattle.kdf_course.specs.World as course
 use Rattle.kdf_course.specs.World.{can_go, stands}
 use Rattle.kdf_theory.specs.Next.{any_live, dispatched, lives, next}
-use Rattle.kdf_director.specs.Fields.Parts.{Reach, Seat, is_lent_by}
+use Rattle.kdf_yard.specs.Fields.Parts.{Reach, Seat, is_lent_by}
 use Rattle.kdf_places.specs.Shared.{Shared}
-use Rattle.kdf_director.specs.Fields.Running.{no_seat, own_state, reach_at, seat_at}
+use Rattle.kdf_yard.specs.Fields.Running.{no_seat, own_state, reach_at, seat_at}
 use Rattle.kdf_theory.specs.Slots.{no_slot, slot_of}
 use Rattle.kdf_theory.specs.ByJournal.{own, world_after}
 use Rattle.kdf_theory.specs.World.{World, need_of}
-use Rattle.kdf_director.proofs.Physical.FirstFound.{any_fails, any_is, any_none, any_there, found_first, none_found}
+use Rattle.kdf_yard.proofs.Physical.FirstFound.{any_fails, any_is, any_none, any_there, found_first, none_found}
 use Rattle.kdf_processor.specs.declared.step.Need.TheVariants.{Pool}
 use Rattle.kdf_director.proofs.Linking.JudgedAlike.{group_same, pending_same}
 use Rattle.kdf_theory.proofs.Course.LegalFacts.{legal_alive}
@@ -35,7 +35,7 @@ use Rattle.kdf_director.proofs.Course.HoldsInside.{legal-near, own_size, size_of
 use Rattle.kdf_theory.proofs.Course.FlightsOnCourse.{legal-course}
 use Rattle.kdf_theory.proofs.Course.OwnSteps.{own-ran}
 use Rattle.kdf_theory.proofs.Course.Worlds.{find_true}
-use Rattle.kdf_director.specs.Fields.Shared.{moment}
+use Rattle.kdf_yard.specs.Fields.Shared.{moment}
 
 -- ---- slots by number
 

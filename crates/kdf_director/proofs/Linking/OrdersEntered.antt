@@ -20,26 +20,26 @@ use Rattle.kdf_transfer.specs.Slots.{Slot}
 use Rattle.kdf_processor.specs.State.{State}
 use Rattle.kdf_director.specs.Advance.{Obeyed, note_told, states_after}
 use Rattle.kdf_theory.specs.Asked.{HasAsked, IsHeard}
-use Rattle.kdf_director.specs.Fields.Agrees.{Agrees, AreLent}
+use Rattle.kdf_director.specs.Fields.Agrees.{Agrees}
+use Rattle.kdf_yard.specs.Fields.Running.{AreLent, outcome_at, hold_of, own_state, seat_at, IsRunning, reach_at}
 use Rattle.kdf_director.specs.Fields.Following.{asked_at}
 use Rattle.kdf_theory.specs.Legal.{Meets, note_for, note_of, note_of_outcome}
 use Rattle.kdf_theory.specs.Next.{next}
-use Rattle.kdf_director.specs.Fields.Notes as notes
-use Rattle.kdf_director.specs.Fields.Parts.{Reach, Seat}
+use Rattle.kdf_yard.specs.Fields.Notes as notes
+use Rattle.kdf_yard.specs.Fields.Parts.{Reach, Seat}
 use Rattle.kdf_places.specs.Shared.{Shared}
-use Rattle.kdf_director.specs.Fields.Running.{outcome_at, hold_of, own_state, seat_at, IsRunning, reach_at}
-use Rattle.kdf_director.specs.Fields.Settled.{holder_left}
+use Rattle.kdf_yard.specs.Fields.Settled.{holder_left}
 use Rattle.kdf_theory.specs.Seen.{begun_row, seen}
 use Rattle.kdf_theory.specs.Shown.{Shown, state_at, state_in, world_of}
 use Rattle.kdf_director.specs.Fields.Viewed.{states_in}
 use Rattle.kdf_theory.specs.Slots.{slot_of, start_of}
 use Rattle.kdf_theory.specs.ByJournal.{flights_of, is_pending_after, lone_world, mine_after, own, seen_of, seen_world}
 use Rattle.kdf_theory.specs.True.{truth}
-use Rattle.kdf_director.specs.Fields.Turned.{word_over, HasTurned}
+use Rattle.kdf_yard.specs.Fields.Turned.{word_over, HasTurned}
 use Rattle.std.specs.Option.{option_map}
 use Rattle.kdf_theory.specs.World as world
 use Rattle.kdf_theory.specs.World.{first_need}
-use Rattle.kdf_director.specs.declared.note.Note.{Note as Noted}
+use Rattle.kdf_yard.specs.declared.note.Note.{Note as Noted}
 use Rattle.kdf_director.proofs.Linking.EventsEntered.{shows}
 use Rattle.kdf_director.proofs.Linking.OrdersFollowed.{outcome_is, turn_follows}
 use Rattle.kdf_director.proofs.Linking.JudgedAlike.{hold_same}
@@ -49,11 +49,11 @@ use Rattle.kdf_theory.proofs.Course.OrdersObeyed.{obeys-others, obeys-seen}
 use Rattle.kdf_theory.proofs.Course.FlightsOnCourse.{apart-mine, free as calm, legal-course}
 use Rattle.kdf_theory.proofs.Course.SeenJournals.{same-need, same-note}
 use Rattle.kdf_theory.proofs.Course.Worlds.{next-world, next_on, next_slot}
-use Rattle.kdf_director.specs.Fields.Shared.{moment}
+use Rattle.kdf_yard.specs.Fields.Shared.{moment}
 use Rattle.kdf_theory.proofs.Seen.OrdersSeen.{same_next}
 use Rattle.kdf_processor.specs.Lone.{is_live}
 use Rattle.kdf_theory.proofs.Course.HeardWords.{heard_so}
-use Rattle.kdf_director.proofs.Turns.HeardWords.{word_is}
+use Rattle.kdf_yard.proofs.Turns.HeardWords.{word_is}
 
 -- ---- states by slots
 

@@ -34,15 +34,14 @@ use Rattle.kdf_theory.specs.True.{truth}
 use Rattle.kdf_theory.specs.World.{first_need}
 use Rattle.kdf_transfer.specs.ByNumber.{device_count}
 use Rattle.kdf_places.specs.Words as physical
-use Rattle.kdf_director.specs.Fields.Agrees.{AreLent}
+use Rattle.kdf_yard.specs.Fields.Running.{AreLent, seat_at, part_at, own_state, hold_of, outcome_at, answers_at, IsRunning}
 use Rattle.kdf_places.specs.Spots.{Held, Spot, blank_spot, no_spot, spot_at, fixture_or, leases_of, own_from}
-use Rattle.kdf_director.specs.Fields.Parts.{Part, Seat, Reach, asked_after, has_device, own_claims, own_progress, own_stock}
+use Rattle.kdf_yard.specs.Fields.Parts.{Part, Seat, Reach, asked_after, has_device, own_claims, own_progress, own_stock}
 use Rattle.kdf_places.specs.Shared.{Shared}
-use Rattle.kdf_director.specs.Fields.Shared.{Setting, view, after_act, moment}
+use Rattle.kdf_yard.specs.Fields.Shared.{Setting, view, after_act, moment}
 use Rattle.kdf_places.specs.Transfers.{start_lease, start_spot}
-use Rattle.kdf_director.specs.Fields.Running.{seat_at, part_at, own_state, hold_of, outcome_at, answers_at, IsRunning}
-use Rattle.kdf_director.specs.Fields.Turned.{HasTurned}
-use Rattle.kdf_director.specs.declared.note.Note.{Note as Noted}
+use Rattle.kdf_yard.specs.Fields.Turned.{HasTurned}
+use Rattle.kdf_yard.specs.declared.note.Note.{Note as Noted}
 use Rattle.kdf_processor.specs.declared.step.Step.{Step as Ended}
 use Rattle.kdf_director.specs.Fields.Following.{IsLink, Linked, IsFollowing, AreFollowing, asked_at}
 use Rattle.kdf_places.proofs.GroupsKept.{free_here}
@@ -59,12 +58,12 @@ use Rattle.kdf_theory.proofs.Course.WorldsJudged.{free_need}
 use Rattle.kdf_theory.proofs.Course.FlightsOnCourse.{IsOnCourse, apart-mine, free, legal-course}
 use Rattle.kdf_theory.proofs.Course.SeenJournals.{same-need, same-note}
 use Rattle.kdf_theory.proofs.Seen.SeenStates.{seen_apart, seen_device_at, seen_number, seen_word_at}
-use Rattle.kdf_director.proofs.Physical.PlacesAlike.{same_at}
-use Rattle.kdf_director.proofs.Physical.PartsShow.{claim_fixture, own_device, own_word}
+use Rattle.kdf_yard.proofs.Physical.PlacesAlike.{same_at}
+use Rattle.kdf_yard.proofs.Physical.PartsShow.{claim_fixture, own_device, own_word}
 use Rattle.kdf_places.proofs.WordsHereAndOut.{here_word}
 use Rattle.kdf_transfer.proofs.Numbers.{length-numbers}
-use Rattle.kdf_director.proofs.Turns.OrdersTried.{IsPart, start_free, start_has, start_idle, start_small}
-use Rattle.kdf_director.proofs.Turns.OneOrder as turn
+use Rattle.kdf_yard.proofs.Turns.OrdersTried.{IsPart, start_free, start_has, start_idle, start_small}
+use Rattle.kdf_yard.proofs.Turns.OneOrder as turn
 use Rattle.kdf_theory.proofs.Course.Worlds.{next_on}
 
 -- a word of the groups that a lease takes

@@ -20,19 +20,19 @@ use Rattle.kdf_processor.specs.State.{State, device_at, fixture_at, is_pooled, o
 use Rattle.kdf_director.specs.Fields.Agrees.{Agrees}
 use Rattle.kdf_director.specs.Fields.Following.{asked_at}
 use Rattle.kdf_places.specs.Spots.{IsDeviceOf, Spot, no_spot, spot_at}
-use Rattle.kdf_director.specs.Fields.Owners.{IsDeviceOwned, is_claimed_by, owner_in}
+use Rattle.kdf_yard.specs.Fields.Owners.{IsDeviceOwned, is_claimed_by, owner_in}
 use Rattle.kdf_transfer.specs.ByNumber.{by_number, device_count}
-use Rattle.kdf_director.specs.Fields.Parts.{Reach, Seat, has_device, in_pool, numbers, own_claims, own_fixture, pool_kind, reach_of}
+use Rattle.kdf_yard.specs.Fields.Parts.{Reach, Seat, has_device, in_pool, numbers, own_claims, own_fixture, pool_kind, reach_of}
 use Rattle.kdf_theory.specs.Loading.{owns}
 use Rattle.kdf_places.specs.Shared.{Shared}
-use Rattle.kdf_director.specs.Fields.Running.{own_state, part_at, reach_at, reaches_in, seat_at}
+use Rattle.kdf_yard.specs.Fields.Running.{own_state, part_at, reach_at, reaches_in, seat_at}
 use Rattle.kdf_theory.specs.Shown.{IsDeviceAt, Shown, state_of}
 use Rattle.kdf_director.specs.Fields.Viewed.{states_in}
 use Rattle.kdf_theory.specs.Slots.{start_of}
-use Rattle.kdf_director.specs.declared.slot.Loaded.{Loaded}
+use Rattle.kdf_yard.specs.declared.slot.Loaded.{Loaded}
 use Rattle.kdf_director.proofs.Linking.OwnStates.{program_is, state_is}
-use Rattle.kdf_director.proofs.Physical.PartsShow.{own_device, own_is}
-use Rattle.kdf_director.specs.Fields.Stints.{lends}
+use Rattle.kdf_yard.proofs.Physical.PartsShow.{own_device, own_is}
+use Rattle.kdf_yard.specs.Fields.Stints.{lends}
 use Rattle.kdf_transfer.proofs.Numbers.{limit_is, number_at, number_past}
 
 -- ---- which slot has a device

@@ -10,13 +10,13 @@ use Rattle.kdf_transfer.specs.Slots.{Slot}
 use Rattle.kdf_processor.specs.State.{State}
 use Rattle.kdf_director.specs.Fields.Agrees.{Agrees}
 use Rattle.kdf_director.specs.Fields.Following.{asked_at}
-use Rattle.kdf_director.specs.Fields.Parts.{Reach, Seat}
+use Rattle.kdf_yard.specs.Fields.Parts.{Reach, Seat}
 use Rattle.kdf_places.specs.Shared.{Shared}
-use Rattle.kdf_director.specs.Fields.Running.{no_seat, own_state, seat_at}
+use Rattle.kdf_yard.specs.Fields.Running.{no_seat, own_state, seat_at}
 use Rattle.kdf_theory.specs.Shown.{Shown, state_of}
 use Rattle.kdf_director.specs.Fields.Viewed.{states_in}
 use Rattle.kdf_theory.specs.Slots.{no_slot, start_of}
-use Rattle.kdf_director.proofs.Linking.FoundByNumber.{find_at, find_none, state_in_at, state_in_some}
+use Rattle.kdf_theory.proofs.Lists.{find_at, find_none, state_in_at, state_in_some}
 
 module _ (slots : List Slot) (reaches : List Reach) (seats : List Seat) (s : Shared) (J : List Entry) (room : ℕ) (a : Agrees slots reaches seats s J) where
   abbrev pub m : Shown

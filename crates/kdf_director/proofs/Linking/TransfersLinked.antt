@@ -21,15 +21,15 @@ use Rattle.kdf_theory.specs.Flights.{Flight, moves_on, all_moves, arrivals, move
 use Rattle.kdf_theory.specs.Seen.{seen, with_both, with_store}
 use Rattle.kdf_theory.specs.ByJournal.{flights_of, further, own, seen_of}
 use Rattle.kdf_places.specs.Spots.{Held, Spot, no_spot, spot_at}
-use Rattle.kdf_director.specs.Fields.Parts.{Part}
+use Rattle.kdf_yard.specs.Fields.Parts.{Part}
 use Rattle.kdf_places.specs.Shared.{Shared}
 use Rattle.kdf_places.specs.Transfers.{flight_moves, moved_held, moved_spot, after_move, ended_by, ended_spot, after_end}
-use Rattle.kdf_director.specs.Fields.Running.{moved_own, ended_own}
+use Rattle.kdf_yard.specs.Fields.Running.{moved_own, ended_own}
 use Rattle.kdf_director.specs.Fields.Following.{IsLink, Linked, IsFollowing}
 use Rattle.kdf_theory.proofs.Seen.OrdersSeen.{with_flight_is, with_flight_other}
 use Rattle.kdf_theory.proofs.Seen.WholeTransfers.{arrivals_input, arrivals_none}
 use Rattle.kdf_theory.proofs.Course.FlightsAdded.{flights-end, flights-move}
-use Rattle.kdf_director.proofs.Turns.FlightsMove.{chosen, passed}
+use Rattle.kdf_yard.proofs.Turns.FlightsMove.{chosen, passed}
 use Rattle.kdf_theory.proofs.Course.FlightsOnCourse.{IsOnCourse}
 use Rattle.kdf_theory.proofs.Course.OwnSteps.{own-same}
 use Rattle.kdf_theory.proofs.Course.SeenJournals.{end-none, end-seen, move-none, move-seen}

@@ -23,22 +23,22 @@ use Rattle.kdf_processor.specs.State.{State}
 use Rattle.kdf_theory.specs.Seen.{tried}
 use Rattle.kdf_director.specs.declared.machine.Progress.{Progress}
 use Rattle.kdf_director.specs.declared.machine.Progress.TheVariants as progress
-use Rattle.kdf_director.specs.declared.note.Note.{Note as Noted}
+use Rattle.kdf_yard.specs.declared.note.Note.{Note as Noted}
 use Rattle.kdf_director.specs.Advance.{note_told, AdvanceWith}
 use Rattle.kdf_director.specs.Fields.Agrees.{Agrees}
 use Rattle.kdf_director.specs.Fields.Following.{AreFollowing, IsFollowing, Linked, asked_at}
 use Rattle.kdf_theory.specs.Legal.{Meets, note_of}
 use Rattle.kdf_theory.specs.Next.{any_live, next}
-use Rattle.kdf_director.specs.Fields.Parts.{Part, Reach, Seat, asked_after, borrower}
+use Rattle.kdf_yard.specs.Fields.Parts.{Part, Reach, Seat, asked_after, borrower}
 use Rattle.kdf_places.specs.Shared.{Shared}
-use Rattle.kdf_director.specs.Fields.Settled.{holder_left}
-use Rattle.kdf_director.specs.Fields.Running.{no_seat, answers_at, hold_of, outcome_at, own_state, part_at, seat_at, IsRunning}
-use Rattle.kdf_director.specs.Fields.Shared.{after_act, moment}
+use Rattle.kdf_yard.specs.Fields.Settled.{holder_left}
+use Rattle.kdf_yard.specs.Fields.Running.{no_seat, answers_at, hold_of, outcome_at, own_state, part_at, seat_at, IsRunning}
+use Rattle.kdf_yard.specs.Fields.Shared.{after_act, moment}
 use Rattle.kdf_theory.specs.Shown.{Shown, state_at, world_of}
 use Rattle.kdf_director.specs.Fields.Viewed.{states_in}
 use Rattle.kdf_theory.specs.Slots.{slot_of}
 use Rattle.kdf_places.specs.Spots.{spot_at}
-use Rattle.kdf_director.specs.Fields.Standing.{Standing}
+use Rattle.kdf_yard.specs.Fields.Standing.{Standing}
 use Rattle.kdf_director.specs.Fields.TurnTaken.{HasTaken, progress_of, step_told}
 use Rattle.kdf_theory.specs.ByJournal.{flights_of, lone_world, own, seen_of}
 use Rattle.kdf_theory.specs.True.{truth}
@@ -52,7 +52,7 @@ use Rattle.kdf_theory.proofs.Course.WorldsJudged.{legal_added, need_again, true_
 use Rattle.kdf_director.proofs.Linking.TransfersLinked.{follow_part}
 use Rattle.kdf_theory.proofs.Course.FlightsOnCourse.{legal-course}
 use Rattle.kdf_theory.proofs.Course.SeenJournals.{same-need}
-use Rattle.kdf_director.proofs.Turns.OneOrder.{numbers_apart}
+use Rattle.kdf_yard.proofs.Turns.OneOrder.{numbers_apart}
 use Rattle.kdf_theory.proofs.Course.Worlds.{next-world, next_on, next_slot}
 use Rattle.kdf_processor.specs.Lone.{is_live}
 use Rattle.kdf_director.proofs.Linking.NextPrograms.{live_same}

@@ -14,21 +14,21 @@ use Rattle.kdf_transfer.specs.Slots.{Slot}
 use Rattle.kdf_processor.specs.State.{State, begin}
 use Rattle.kdf_director.specs.declared.machine.TheConstants.{EVENT_LIMIT}
 use Rattle.kdf_director.specs.Fields.Agrees.{Agrees, IsReady}
-use Rattle.kdf_director.specs.Fields.Standing.{Standing}
+use Rattle.kdf_yard.specs.Fields.Standing.{Standing}
 use Rattle.kdf_theory.specs.Flights.{Flight}
 use Rattle.kdf_director.specs.Fields.Following.{AreFollowing, Linked}
 use Rattle.kdf_theory.specs.Loading.{SlotLoad, slot_of}
-use Rattle.kdf_director.specs.Fields.Begun.{IsLoaded}
-use Rattle.kdf_director.specs.Fields.Filled.{first_seat}
-use Rattle.kdf_director.specs.Fields.Parts.{Part, Seat}
-use Rattle.kdf_director.specs.Fields.Running.{no_seat, own_state, part_at, seat_at}
+use Rattle.kdf_yard.specs.Fields.Begun.{IsLoaded}
+use Rattle.kdf_yard.specs.Fields.Filled.{first_seat}
+use Rattle.kdf_yard.specs.Fields.Parts.{Part, Seat}
+use Rattle.kdf_yard.specs.Fields.Running.{no_seat, own_state, part_at, seat_at}
 use Rattle.kdf_director.specs.Fields.Viewed.{states_in}
 use Rattle.kdf_theory.specs.Slots.{no_slot, start, start_of}
 use Rattle.kdf_theory.specs.Slots as slots
 use Rattle.kdf_places.specs.Spots.{Held}
 use Rattle.kdf_theory.specs.ByJournal.{seen_of}
 use Rattle.kdf_theory.specs.World.{need_of}
-use Rattle.kdf_director.proofs.Linking.EventsEntered.{map_twice}
+use Rattle.kdf_theory.proofs.Lists.{map_twice}
 use Rattle.kdf_theory.proofs.Course.WorldsJudged.{legal_nil, true_nil}
 use Rattle.kdf_theory.proofs.JobsLoaded.{no_load}
 use Rattle.kdf_theory.proofs.Course.FlightsOnCourse.{none-first}

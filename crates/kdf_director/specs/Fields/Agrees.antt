@@ -1,5 +1,5 @@
 -- How the fields of a machine agree with its slots and its journal.
-use Rattle.std.specs.Prelude.{◌≡◌, ℕ, ◌+◌, ◌*◌, ◌<◌, ◌≤◌, List, Option, length, map, true}
+use Rattle.std.specs.Prelude.{◌≡◌, ℕ, ◌+◌, ◌*◌, ◌<◌, ◌≤◌, List, map, true}
 use Rattle.std.specs.List.{All}
 use Rattle.std.specs.Option.{option_map}
 use Rattle.kdf_journal.specs.declared.entry.Entry.{Entry}
@@ -9,23 +9,13 @@ use Rattle.kdf_journal.specs.Counts.{calls, last_hold, moves}
 use Rattle.kdf_transfer.specs.Slots.{Slot}
 use Rattle.kdf_director.specs.declared.machine.TheConstants.{EVENT_LIMIT}
 use Rattle.kdf_director.specs.Fields.Following.{AreFollowing}
-use Rattle.kdf_theory.specs.Holders.{held_by}
 use Rattle.kdf_theory.specs.Legal.{IsLegal, IsTrue}
-use Rattle.kdf_director.specs.Fields.Parts.{Reach, Seat, borrower, in_pool}
+use Rattle.kdf_yard.specs.Fields.Parts.{Reach, Seat}
 use Rattle.kdf_places.specs.Shared.{Shared}
-use Rattle.kdf_director.specs.Fields.Running.{part_at, IsRunning}
-use Rattle.kdf_director.specs.Fields.Standing.{Standing}
+use Rattle.kdf_yard.specs.Fields.Running.{IsRunning}
+use Rattle.kdf_yard.specs.Fields.Standing.{Standing}
 use Rattle.kdf_theory.specs.Slots.{AreSlots}
 use Rattle.kdf_theory.specs.World.{need_of}
-
--- who has each device of the pool is told so
-abbrev pub AreHeld : (held : ℕ → Option ℕ) → List Reach → List Seat → Type 0
-AreHeld held reaches seats =
-    (i d : ℕ) → i < length seats → in_pool (part_at reaches seats i) d ≡ true → borrower seats d ≡ held d
-
--- each device of the pool is whose the journal tells
-abbrev pub AreLent : List Entry → List Reach → List Seat → Type 0
-AreLent J reaches seats = AreHeld (held_by J) reaches seats
 
 -- the slots are of four numbers, the programs are theirs and follow the journal over what they share, the pool lends as
 -- the journal tells, and the journal is legal and true

@@ -10,9 +10,9 @@ use Rattle.kdf_processor.specs.State.{State, device_at, fixture_at}
 use Rattle.kdf_theory.specs.Flights.{Flight}
 use Rattle.kdf_theory.specs.ByJournal.{flights_of, seen_of}
 use Rattle.kdf_places.specs.Spots.{Held, spot_at}
-use Rattle.kdf_director.specs.Fields.Parts.{Part, Seat, Reach}
+use Rattle.kdf_yard.specs.Fields.Parts.{Part, Seat, Reach}
 use Rattle.kdf_places.specs.Shared.{Shared}
-use Rattle.kdf_director.specs.Fields.Running.{seat_at, part_at, own_state}
+use Rattle.kdf_yard.specs.Fields.Running.{seat_at, part_at, own_state}
 
 -- A transfer of the machine is the flight that the journal tells: its order, its area placed by the window, the device
 -- as it was at the begin, how many words have moved, and the words that go out.

@@ -4,8 +4,8 @@ use Rattle.std.specs.Option.{option_map}
 use Rattle.kdf_director.specs.declared.halt.Halt.{Halt}
 use Rattle.kdf_director.specs.declared.machine.Progress.{Progress}
 use Rattle.kdf_director.specs.declared.machine.Progress.TheVariants.{Ran, Held, Idle, AllEnded}
-use Rattle.kdf_director.specs.Fields.Parts.{Seat}
-use Rattle.kdf_director.specs.Fields.Standing.{Standing}
+use Rattle.kdf_yard.specs.Fields.Parts.{Seat}
+use Rattle.kdf_yard.specs.Fields.Standing.{Standing}
 use Rattle.kdf_director.specs.Halts.{halts}
 
 -- whether they stop after a call that answers so

@@ -1,7 +1,8 @@
 -- The fields of a machine: how things stand by them, what is shown of them, and what holds of them.
 use Rattle.kdf_director.specs.declared.machine.Machine.TheInside.{Inside}
 use Rattle.kdf_director.specs.Fields.Agrees.{IsReady}
-use Rattle.kdf_director.specs.Fields.Standing.{Standing, shown_of, standing, IsYard}
+use Rattle.kdf_yard.specs.Fields.Standing.{Standing, standing, IsYard}
+use Rattle.kdf_director.specs.Fields.Viewed.{shown_of}
 use Rattle.kdf_theory.specs.Shown.{Shown}
 
 abbrev pub stands : Inside → Standing

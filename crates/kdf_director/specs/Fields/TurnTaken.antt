@@ -8,13 +8,13 @@ use Rattle.kdf_processor.specs.declared.step.Step.{Step as Ending}
 use Rattle.kdf_processor.specs.declared.step.Step.TheVariants as ending
 use Rattle.kdf_director.specs.declared.machine.Progress.{Progress}
 use Rattle.kdf_director.specs.declared.machine.Progress.TheVariants as progress
-use Rattle.kdf_director.specs.declared.note.Note.{Note as Noted}
+use Rattle.kdf_yard.specs.declared.note.Note.{Note as Noted}
 use Rattle.kdf_director.specs.Advance.{note_told}
-use Rattle.kdf_director.specs.Fields.Parts.{Reach, Seat}
+use Rattle.kdf_yard.specs.Fields.Parts.{Reach, Seat}
 use Rattle.kdf_places.specs.Shared.{Shared}
-use Rattle.kdf_director.specs.Fields.Running.{reach_at, seat_at}
-use Rattle.kdf_director.specs.Fields.Shared.{moment}
-use Rattle.kdf_director.specs.Fields.Turned.{word_over, HasTurned}
+use Rattle.kdf_yard.specs.Fields.Running.{reach_at, seat_at}
+use Rattle.kdf_yard.specs.Fields.Shared.{moment}
+use Rattle.kdf_yard.specs.Fields.Turned.{word_over, HasTurned}
 use Rattle.kdf_theory.specs.World.{hold_left, hold_of}
 use Rattle.kdf_theory.specs.Asked.{HasAsked}
 

@@ -15,7 +15,7 @@ ghost use Rattle.kdf_theory.specs.Legal.{IsLegal, IsTrue, Meets};
 ghost use Rattle.kdf_theory.specs.Served.{is_true_for, unasked, IsAnswered, IsJournalFor, IsTrueFor};
 ghost use Rattle.kdf_theory.specs.Slots.{NoneServed};
 ghost use Rattle.kdf_director.specs.Alike.{AreAlike};
-ghost use Rattle.kdf_director.specs.Unasked.{AsksNone};
+ghost use Rattle.kdf_theory.specs.Unasked.{AsksNone};
 
 /// With a service, slots have at most one journal under a schedule.
 pub fn one_journal<F: Fn(u64) -> u64>()

@@ -1,7 +1,9 @@
 //! The fields of a machine and of what it is made of, by patterns that name each field and each variant: with one more,
 //! or one of another name, this doesn't compile.
-use crate::{Loaded, Machine, Place, Program, Stint};
+use crate::Machine;
 use kdf_job::Job;
+use kdf_places::Place;
+use kdf_yard::{Loaded, Program, Stint};
 use std::test::Fail;
 
 /// Takes a slot apart.

@@ -1,4 +1,4 @@
-use Rattle.kdf_director.proofs.Corollaries.StintsHeld.{no_stint, one_stint}
+use Rattle.kdf_theory.proofs.Corollaries.StintsHeld.{no_stint, one_stint}
 use Rattle.kdf_director.proofs.laws.stints_held.Goals as goal
 
 pub returns-clause-claimed : goal.returns-clause-claimed

@@ -1,6 +1,7 @@
 use Rattle.std.proofs.Common.{sym, ap, subst}
 use Rattle.kdf_director.specs.Fields.Agrees.{IsReady}
-use Rattle.kdf_director.specs.Fields.Standing.{Standing, shown_of}
+use Rattle.kdf_yard.specs.Fields.Standing.{Standing}
+use Rattle.kdf_director.specs.Fields.Viewed.{shown_of}
 use Rattle.kdf_director.proofs.machine.machine_of.Goals as goal
 
 pub invariant_of-result : goal.invariant_of-result

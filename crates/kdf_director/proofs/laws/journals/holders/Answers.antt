@@ -1,4 +1,4 @@
-use Rattle.kdf_director.proofs.Corollaries.BusyDevices.{busy_held}
+use Rattle.kdf_theory.proofs.Corollaries.BusyDevices.{busy_held}
 use Rattle.kdf_theory.proofs.Course.DevicesHeld.{legal_held, legal_taken}
 use Rattle.kdf_director.proofs.laws.journals.holders.Goals as goal
 

@@ -9,7 +9,7 @@ use Rattle.kdf_transfer.specs.Slots.{Slot}
 use Rattle.kdf_theory.specs.ByJournal.{flights_of, own}
 use Rattle.kdf_theory.specs.Seen.{seen}
 use Rattle.kdf_director.specs.Alike.{AreAlike}
-use Rattle.kdf_director.proofs.Course.EqualFutures.{ended_added, flight_alike, future, lent_added, own_alike, truly_alike, world_alike, IsJudged}
+use Rattle.kdf_theory.proofs.Course.EqualFutures.{ended_added, flight_alike, future, lent_added, own_alike, truly_alike, world_alike, IsJudged}
 use Rattle.kdf_director.proofs.laws.served.equal_futures.Goals as goal
 
 pub returns-clause-step : goal.returns-clause-step

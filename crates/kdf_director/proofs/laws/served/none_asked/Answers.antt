@@ -1,4 +1,4 @@
-use Rattle.kdf_director.proofs.Corollaries.NoneAsked.{none_unserved, true_for_each}
+use Rattle.kdf_theory.proofs.Corollaries.NoneAsked.{none_unserved, true_for_each}
 use Rattle.kdf_director.proofs.laws.served.none_asked.Goals as goal
 
 pub returns-clause-every : goal.returns-clause-every

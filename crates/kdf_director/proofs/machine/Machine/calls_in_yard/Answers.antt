@@ -1,7 +1,8 @@
 use Rattle.std.proofs.Common.{◌≡◌, ◌+◌, ◌≤◌, sym, ap, ◌∙◌, subst}
 use Rattle.kdf_journal.specs.Counts.{calls}
 use Rattle.kdf_director.specs.Fields.Agrees.{IsReady}
-use Rattle.kdf_director.specs.Fields.Standing.{Standing, shown_of, standing, IsYard}
+use Rattle.kdf_yard.specs.Fields.Standing.{Standing, standing, IsYard}
+use Rattle.kdf_director.specs.Fields.Viewed.{shown_of}
 use Rattle.kdf_director.specs.Lends.{windows_in}
 use Rattle.kdf_director.specs.Halts.{HasMadeButTo, HasMadeTo}
 use Rattle.kdf_theory.specs.Shown.{Shown}
@@ -37,7 +38,7 @@ lifted g c =
     c.self.view_is
 
 -- the slots stay, and so their windows
-same_slots : (g : Over) (c : goal.After-destroy_empty g) → c.orders-made.new.self.slots ≡ c.args.self.now.slots
+same_slots : (g : Over) (c : goal.After-destroy_empty g) → c.orders-made.new.yard.slots ≡ c.args.self.now.slots
 same_slots g c =
     on_either c.orders-made.result _ _ _ c.orders-made.ensures.made c.orders-made.ensures.err
     (λ r x. (lived (λ n a. goal.F-post g c.args.service.now n a) _ x.made _ r x.some).2.slots)
@@ -54,12 +55,12 @@ same_windows g c =
 
 -- so it stands after them
 laid_down : (g : Over) (c : goal.After-destroy_empty g)
-    → c.orders-made.new.self ≡ standing c.replace-5.new.dest.items c.self.inside.windows c.replace-6.new.dest c.replace-7.new.dest.items
+    → c.orders-made.new.yard ≡ standing c.replace-5.new.dest.items c.self.inside.windows c.replace-6.new.dest c.replace-7.new.dest.items
     c.replace-8.new.dest.items
 laid_down g c =
-    at_four (λ slots store programs places. c.orders-made.new.self ≡ standing slots.items c.self.inside.windows store programs.items places.items)
+    at_four (λ slots store programs places. c.orders-made.new.yard ≡ standing slots.items c.self.inside.windows store programs.items places.items)
     (sym c.replace-5.ensures.after) (sym c.replace-6.ensures.after) (sym c.replace-7.ensures.after) (sym c.replace-8.ensures.after)
-    (subst (λ windows. c.orders-made.new.self ≡ standing c.yard.inside.slots.items windows c.yard.inside.store c.yard.inside.programs.items
+    (subst (λ windows. c.orders-made.new.yard ≡ standing c.yard.inside.slots.items windows c.yard.inside.store c.yard.inside.programs.items
     c.yard.inside.places.items) (same_windows g c) (sym c.yard.view_is))
 
 pub invariant_of-self : goal.invariant_of-self
@@ -80,7 +81,7 @@ returns-clause-made g c =
     subst (λ (y : Standing). HasMadeTo (λ n a. goal.F-post g c.args.service.now n a) c.args.halt c.args.left.now c.orders-made.new.left c.args.self.now
     (shown_of y c.orders-made.new.journal c.self.inside.room) r) (laid_down g c)
     (subst (λ (old : Shown). HasMadeTo (λ n a. goal.F-post g c.args.service.now n a) c.args.halt c.args.left.now c.orders-made.new.left old
-    (shown_of c.orders-made.new.self c.orders-made.new.journal c.self.inside.room) r) (lifted g c) made))
+    (shown_of c.orders-made.new.yard c.orders-made.new.journal c.self.inside.room) r) (lifted g c) made))
     c.orders-made.ensures.made
 
 pub returns-clause-err : goal.returns-clause-err
@@ -90,7 +91,7 @@ returns-clause-err g c =
     subst (λ (y : Standing). HasMadeButTo (λ n a. goal.F-post g c.args.service.now n a) c.args.halt c.args.left.now c.orders-made.new.left c.args.self.now
     (shown_of y c.orders-made.new.journal c.self.inside.room)) (laid_down g c)
     (subst (λ (old : Shown). HasMadeButTo (λ n a. goal.F-post g c.args.service.now n a) c.args.halt c.args.left.now c.orders-made.new.left old
-    (shown_of c.orders-made.new.self c.orders-made.new.journal c.self.inside.room)) (lifted g c) fewer))
+    (shown_of c.orders-made.new.yard c.orders-made.new.journal c.self.inside.room)) (lifted g c) fewer))
     c.orders-made.ensures.err
 
 pub returns-clause-slots : goal.returns-clause-slots

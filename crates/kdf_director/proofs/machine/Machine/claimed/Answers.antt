@@ -4,9 +4,9 @@ use Rattle.std.proofs.Common.{◌≡◌, true, None, map, sym, ap₂, ◌∙◌,
 use Rattle.kdf_journal.specs.Counts.{holder}
 use Rattle.kdf_processor.specs.Claims.{is_claimed}
 use Rattle.kdf_processor.specs.State.{State, fixture_at, is_pooled, own_fixture_at}
-use Rattle.kdf_director.specs.Fields.Filled.{loaded, pool_in}
-use Rattle.kdf_director.specs.Fields.Owners.{is_claimed_by, owner_in}
-use Rattle.kdf_director.specs.Fields.Running.{seats_in}
+use Rattle.kdf_yard.specs.Fields.Filled.{loaded, pool_in}
+use Rattle.kdf_yard.specs.Fields.Owners.{is_claimed_by, owner_in}
+use Rattle.kdf_yard.specs.Fields.Running.{seats_in}
 use Rattle.kdf_theory.specs.Shown.{Shown, state_of}
 use Rattle.kdf_director.proofs.Linking.FieldsShow.{claimed_absent, claimed_shown, claims_it, pool_shown}
 use Rattle.kdf_director.proofs.machine.Machine.claimed.Goals as goal

@@ -5,7 +5,7 @@ use Rattle.kdf_places.specs.Spots.{spot_at, spot_of}
 use Rattle.kdf_places.specs.Transfers.{after_end, back_cells, ended_spot, last_lease, IsBack}
 use Rattle.kdf_theory.specs.ByJournal.{is_of}
 use Rattle.kdf_director.specs.Fields.Machines.{stands}
-use Rattle.kdf_director.specs.Fields.Standing.{standing}
+use Rattle.kdf_yard.specs.Fields.Standing.{standing}
 use Rattle.kdf_theory.specs.Shown.{Shown, entered, state_of}
 use Rattle.kdf_director.proofs.Linking.AfterEvents.{comes_back, has_place, others_ended, ready_ended, shown_ended, stands_ended, yard_ended}
 use Rattle.kdf_director.proofs.machine.Machine.end.Goals as goal

@@ -1,5 +1,5 @@
 use Rattle.std.proofs.Common.{ap, ◌∙◌, subst}
-use Rattle.kdf_director.specs.Fields.Going.{any_on}
+use Rattle.kdf_yard.specs.Fields.Going.{any_on}
 use Rattle.kdf_theory.specs.Next.{any_live}
 use Rattle.kdf_director.specs.Fields.Machines.{stands}
 use Rattle.kdf_theory.specs.Shown.{Shown, ShowsSeen}

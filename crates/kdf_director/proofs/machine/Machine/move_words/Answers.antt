@@ -5,7 +5,7 @@ use Rattle.kdf_places.specs.Spots.{spot_at, spot_of}
 use Rattle.kdf_places.specs.Transfers.{after_move, moved_spot}
 use Rattle.kdf_theory.specs.ByJournal.{is_of}
 use Rattle.kdf_director.specs.Fields.Machines.{stands}
-use Rattle.kdf_director.specs.Fields.Standing.{standing}
+use Rattle.kdf_yard.specs.Fields.Standing.{standing}
 use Rattle.kdf_theory.specs.Shown.{Shown, entered, state_of}
 use Rattle.kdf_director.proofs.Linking.AfterEvents.{has_place, others_moved, ready_moved, shown_moved, stands_moved, yard_moved}
 use Rattle.kdf_director.proofs.machine.Machine.move_words.Goals as goal

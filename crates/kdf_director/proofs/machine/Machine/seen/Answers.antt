@@ -4,7 +4,7 @@ use Rattle.std.proofs.Common.{eqb, ap, ◌∙◌, subst}
 use Rattle.kdf_processor.specs.State.{State}
 use Rattle.kdf_director.specs.Fields.Machines.{stands}
 use Rattle.kdf_theory.specs.Shown.{Shown, ShowsSeen, state_of}
-use Rattle.kdf_director.specs.declared.program.Program.{Program}
+use Rattle.kdf_yard.specs.declared.program.Program.{Program}
 use Rattle.kdf_director.proofs.Linking.EventsEntered.{shown_seen}
 use Rattle.kdf_director.proofs.Linking.FieldsShow.{registers_shown}
 use Rattle.kdf_director.proofs.machine.Machine.seen.Goals as goal

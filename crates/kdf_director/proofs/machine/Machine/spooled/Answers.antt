@@ -2,7 +2,7 @@ use Rattle.std.specs.Prelude.{find, IfSome, IsSomeAnd, is_some}
 use Rattle.std.proofs.Common.{◌≡◌, eqb, ap, ◌∙◌, subst}
 use Rattle.kdf_processor.specs.State.{State}
 use Rattle.kdf_theory.specs.Shown.{Shown, state_of}
-use Rattle.kdf_director.specs.declared.program.Program.{Program}
+use Rattle.kdf_yard.specs.declared.program.Program.{Program}
 use Rattle.kdf_director.proofs.Linking.FieldsShow.{texts_shown}
 use Rattle.kdf_director.proofs.machine.Machine.spooled.Goals as goal
 

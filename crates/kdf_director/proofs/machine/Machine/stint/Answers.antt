@@ -2,11 +2,11 @@ use Rattle.std.specs.Prelude.{find, slice_get, IfSome, IsSomeAnd}
 use Rattle.std.proofs.Common.{◌<◌, eqb, get_or, length, map, sym, subst}
 use Rattle.kdf_processor.specs.State.{State, lendings}
 use Rattle.kdf_processor.specs.Stints.{IsStint}
-use Rattle.kdf_director.specs.Fields.Owners.{HasLent, IsTold}
+use Rattle.kdf_yard.specs.Fields.Owners.{HasLent, IsTold}
 use Rattle.kdf_theory.specs.Shown.{Shown, state_of}
 use Rattle.kdf_places.specs.Spots.{spot_of}
-use Rattle.kdf_director.specs.Fields.Stints.{keeping_of, no_keeping}
-use Rattle.kdf_director.specs.declared.program.Program.{Program}
+use Rattle.kdf_yard.specs.Fields.Stints.{keeping_of, no_keeping}
+use Rattle.kdf_yard.specs.declared.program.Program.{Program}
 use Rattle.kdf_director.proofs.Linking.FieldsShow.{stint_lent, stint_shown, stint_there}
 use Rattle.kdf_director.proofs.machine.Machine.stint.Goals as goal
 

@@ -2,9 +2,9 @@ use Rattle.std.specs.Prelude.{find}
 use Rattle.std.specs.Option.{option_map}
 use Rattle.std.proofs.Common.{eqb, ap, ◌∙◌}
 use Rattle.kdf_director.specs.Lends.{window_in}
-use Rattle.kdf_director.specs.Fields.Parts.{window_at}
+use Rattle.kdf_yard.specs.Fields.Parts.{window_at}
 use Rattle.kdf_theory.specs.Shown.{Shown}
-use Rattle.kdf_director.specs.declared.program.Program.{Program}
+use Rattle.kdf_yard.specs.declared.program.Program.{Program}
 use Rattle.kdf_director.proofs.Linking.FieldsShow.{window_told}
 use Rattle.kdf_director.proofs.machine.Machine.window.Goals as goal
 

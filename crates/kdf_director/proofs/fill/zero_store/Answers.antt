@@ -1,7 +1,0 @@
-use Rattle.std.proofs.Common.{refl}
-use Rattle.kdf_director.proofs.Loading.StoreFilled.{ok_zero}
-use Rattle.kdf_director.proofs.fill.zero_store.Goals as goal
-use Rattle.kdf_limits.specs.declared.store.TheConstants.{STORE_GROUPS}
-
-pub returns-clause-cells : goal.returns-clause-cells
-returns-clause-cells c = ok_zero STORE_GROUPS c.new.result refl c.new.ensures

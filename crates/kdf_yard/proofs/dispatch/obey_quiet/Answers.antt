@@ -1,0 +1,140 @@
+use Rattle.std.proofs.Common.{◌≡◌, ℕ, suc, ◌+◌, false, Option, refl, sym, subst, ◌∙◌, arith}
+use Rattle.kdf_processor.specs.declared.registers.Registers.{Registers}
+use Rattle.kdf_processor.specs.declared.step.Step.{Step}
+use Rattle.kdf_processor.specs.declared.step.Step.TheVariants.{Done}
+use Rattle.kdf_yard.specs.declared.note.Note.{Note}
+use Rattle.kdf_yard.specs.declared.note.Note.TheVariants.{Quiet}
+use Rattle.kdf_yard.specs.declared.turn.Turn.{Turn}
+use Rattle.kdf_yard.specs.Fields.Batches.{of_seat, AreQuiet, Passes, is_at}
+use Rattle.kdf_yard.specs.Fields.Turn.{held_in, reach_in, seat_in, shared, SameProgram}
+use Rattle.kdf_yard.specs.Fields.Turned.{HasTried}
+use Rattle.kdf_yard.proofs.Turns.Batching.{last_by, tried_over, went_on}
+use Rattle.kdf_theory.proofs.GoingOn.{GoesOn}
+use Rattle.kdf_yard.proofs.Turns.TurnsShow.{program_then}
+use Rattle.kdf_yard.proofs.dispatch.obey_quiet.Goals as goal
+
+-- an order was tried of a program that stood so in one turn, and the next turn was left, over what a turn reaches
+abbrev TriesOver : Turn → Turn → Turn → Registers → Registers → Step → Type 0
+TriesOver t u w r left ended =
+    HasTried (reach_in t) (held_in t) t.moment (seat_in u r) (shared u) (seat_in w left) (shared w) ended w.note
+
+-- so many were obeyed since a turn, of which nothing is noted, past a place
+abbrev QuietSince : Option ℕ → Turn → Registers → ℕ → Turn → Registers → Type 0
+QuietSince place t r n u left =
+    AreQuiet (Passes of_seat place (HasTried (reach_in t) (held_in t) t.moment)) n (seat_in t r) (shared t) (seat_in u left) (shared u)
+
+-- over the turn that there was at first
+over : (t u w : Turn) (r left : Registers) (ended : Step) → SameProgram t u → TriesOver u u w r left ended → TriesOver t u w r left ended
+over t u w r left ended same tried =
+    tried_over t u same (seat_in u r) (shared u) (seat_in w left) (shared w) ended w.note tried
+
+-- of a turn in which nothing was changed before
+unchanged : (u u' w : Turn) (r r' left : Registers) (ended : Step) → r' ≡ r → u' ≡ u → TriesOver u' u' w r' left ended → TriesOver u u w r left ended
+unchanged u u' w r r' left ended is is' tried = rw (sym is, sym is') tried
+
+went : (t u w : Turn) (r left : Registers) → TriesOver t u w r left Done → GoesOn r left
+went t u w r left tried =
+    went_on (reach_in t) (held_in t) t.moment (seat_in u r) (shared u) (seat_in w left) (shared w) w.note tried
+
+-- one more of which nothing is noted
+quiet_on : (place : Option ℕ) (t u w : Turn) (first r left : Registers) (n : ℕ) → QuietSince place t first n u r → w.note ≡ Quiet → TriesOver t u w r left Done
+    → is_at place left ≡ false → QuietSince place t first (n + 1) w left
+quiet_on place t u w first r left n earlier quiet tried past =
+    let one : suc n ≡ n + 1 = omega arith in
+    subst (λ k. QuietSince place t first k w left) one (
+      seat_in u r,
+      shared u,
+      earlier,
+      (
+        subst (λ (x : Note). HasTried (reach_in t) (held_in t) t.moment (seat_in u r) (shared u) (seat_in w left) (shared w) Done x) quiet tried,
+        past,
+      ),
+    )
+
+pub returns-then-done-most-clause-tried : goal.returns-then-done-most-clause-tried
+returns-then-done-most-clause-tried g c =
+    let before = c.loop-turn in
+    let new = c.obey_at_hand.new in
+    last_by (reach_in c.args.turn.now) (held_in c.args.turn.now) c.args.turn.now.moment c.args.place before.done _ _ _ _ _ _ _ Done Done new.turn.note
+    c.note.result
+    before.invariant.earlier refl
+    (over c.args.turn.now before.turn new.turn before.registers new.registers Done before.invariant.same c.in-Some.ensures.tried)
+    refl c.note.ensures
+
+pub loop-turn-preserved-in-Some : goal.loop-turn-preserved-in-Some
+loop-turn-preserved-in-Some g c =
+    let before = c.loop-turn in
+    let new = c.obey_at_hand.new in
+    let quiet : new.turn.note ≡ Quiet = c.is_quiet.ensures c.if-not-is_quiet.false in
+    let tried = over c.args.turn.now before.turn new.turn before.registers new.registers Done before.invariant.same c.in-Some.ensures.tried in
+    let gone = went c.args.turn.now before.turn new.turn before.registers new.registers tried in
+    record {
+      same = program_then c.args.turn.now before.turn new.turn before.invariant.same c.obey_at_hand.ensures.same;
+      live = gone.state ∙ before.invariant.live;
+      few = (let more = c.if-done-most.false in let few = before.invariant.few in omega arith);
+      ran = omega (arith, before.invariant.ran, before.invariant.few, gone.ran);
+      quiet = quiet;
+      agrees = c.obey_at_hand.ensures.agrees;
+      earlier = quiet_on c.args.place c.args.turn.now before.turn new.turn c.args.registers.now before.registers new.registers before.done
+          before.invariant.earlier quiet tried (sym c.is_at.ensures ∙ c.if-is_at.false);
+    }
+
+pub returns-then-done-most-2-clause-tried : goal.returns-then-done-most-2-clause-tried
+returns-then-done-most-2-clause-tried g c =
+    let before = c.loop-turn in
+    let left = c.in-None.ensures.left in
+    let mid = c.obey_at_hand.new in
+    let new = c.obey_next.new in
+    let tried : TriesOver mid.turn mid.turn new.turn mid.registers new.registers Done =
+    subst (TriesOver mid.turn mid.turn new.turn mid.registers new.registers) c.in-Ok-Done.field-0-is c.in-Ok-Done.ensures.tried in
+    last_by (reach_in c.args.turn.now) (held_in c.args.turn.now) c.args.turn.now.moment c.args.place before.done _ _ _ _ _ _ _ Done Done new.turn.note
+    c.note-then-done-most-2.result
+    before.invariant.earlier refl
+    (over c.args.turn.now before.turn new.turn before.registers new.registers Done before.invariant.same
+    (unchanged before.turn mid.turn new.turn before.registers mid.registers new.registers Done left.0 left.1 tried))
+    refl c.note-then-done-most-2.ensures
+
+pub loop-turn-preserved : goal.loop-turn-preserved
+loop-turn-preserved g c =
+    let before = c.loop-turn in
+    let left = c.in-None.ensures.left in
+    let mid = c.obey_at_hand.new in
+    let new = c.obey_next.new in
+    let quiet : new.turn.note ≡ Quiet = c.is_quiet-else-done-most-2.ensures c.if-not-is_quiet-2.false in
+    let here : TriesOver mid.turn mid.turn new.turn mid.registers new.registers Done =
+    subst (TriesOver mid.turn mid.turn new.turn mid.registers new.registers) c.in-Ok-Done.field-0-is c.in-Ok-Done.ensures.tried in
+    let tried =
+    over c.args.turn.now before.turn new.turn before.registers new.registers Done before.invariant.same
+    (unchanged before.turn mid.turn new.turn before.registers mid.registers new.registers Done left.0 left.1 here) in
+    let gone = went c.args.turn.now before.turn new.turn before.registers new.registers tried in
+    record {
+      same = program_then c.args.turn.now mid.turn new.turn
+          (program_then c.args.turn.now before.turn mid.turn before.invariant.same c.obey_at_hand.ensures.same) c.obey_next.ensures.same;
+      live = gone.state ∙ before.invariant.live;
+      few = (let more = c.if-done-most-2.false in let few = before.invariant.few in omega arith);
+      ran = omega (arith, before.invariant.ran, before.invariant.few, gone.ran);
+      quiet = quiet;
+      agrees = c.obey_next.ensures.agrees;
+      earlier = quiet_on c.args.place c.args.turn.now before.turn new.turn c.args.registers.now before.registers new.registers before.done
+          before.invariant.earlier quiet tried (sym c.is_at-else-not-is_quiet-2.ensures ∙ c.if-is_at-2.false);
+    }
+
+pub returns-in-Ok : goal.returns-in-Ok
+returns-in-Ok g c =
+    let before = c.loop-turn in
+    let left = c.in-None.ensures.left in
+    let mid = c.obey_at_hand.new in
+    let new = c.obey_next.new in
+    let tried = unchanged before.turn mid.turn new.turn before.registers mid.registers new.registers c.in-Ok.step left.0 left.1 c.in-Ok.ensures.tried in
+    record {
+      tried =
+          last_by (reach_in c.args.turn.now) (held_in c.args.turn.now) c.args.turn.now.moment c.args.place before.done _ _ _ _ _ _ _ c.in-Ok.step c.in-Ok.step
+          new.turn.note c.note-in-Ok.result
+          before.invariant.earlier refl
+          (over c.args.turn.now before.turn new.turn before.registers new.registers c.in-Ok.step before.invariant.same tried)
+          refl c.note-in-Ok.ensures;
+      err = tt;
+      within = before.invariant.few;
+      same = program_then c.args.turn.now mid.turn new.turn
+          (program_then c.args.turn.now before.turn mid.turn before.invariant.same c.obey_at_hand.ensures.same) c.obey_next.ensures.same;
+    }

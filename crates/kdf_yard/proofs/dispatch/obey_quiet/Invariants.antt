@@ -1,0 +1,25 @@
+use Rattle.std.proofs.Common.{◌≡◌, ◌+◌, ◌-◌, ◌<◌, ◌≤◌}
+use Rattle.kdf_processor.specs.declared.registers.Life.TheVariants as life
+use Rattle.kdf_processor.specs.Buffered.{Agrees}
+use Rattle.kdf_yard.specs.declared.note.Note.TheVariants.{Quiet}
+use Rattle.kdf_yard.specs.Fields.Batches.{of_seat, AreQuiet, Passes}
+use Rattle.kdf_yard.specs.Fields.Turn.{held_in, reach_in, seat_in, shared, shown, SameProgram}
+use Rattle.kdf_yard.specs.Fields.Turned.{HasTried}
+use Rattle.kdf_yard.proofs.dispatch.obey_quiet.Given as goal
+
+abbrev pub invariant-loop-turn : goal.invariant-loop-turn
+invariant-loop-turn g l =
+    record {
+      same : SameProgram l.fn.turn l.turn;
+      live : l.registers.state ≡ life.Live;
+      few : l.done < l.most;
+      ran : l.registers.ran + (l.most - l.done) ≤ 4294967295;
+      quiet : l.turn.note ≡ Quiet;
+      agrees : Agrees (shown l.turn) l.held;
+      earlier :
+          AreQuiet (Passes of_seat l.place (HasTried (reach_in l.fn.turn) (held_in l.fn.turn) l.fn.turn.moment)) l.done (seat_in l.fn.turn l.fn.registers)
+          (shared l.fn.turn) (seat_in l.turn l.registers) (shared l.turn);
+    }
+
+abbrev pub decreases-loop-turn : goal.decreases-loop-turn
+decreases-loop-turn g l = l.most - l.done

@@ -1,0 +1,19 @@
+-- How things stand in a yard: its store, places, slots and programs, and what an order makes of them.
+pub mod Batches
+pub mod Begun
+pub mod CanTurn
+pub mod Filled
+pub mod Going
+pub mod Keeping
+pub mod Notes
+pub mod Owners
+pub mod Parts
+pub mod Running
+pub mod Settled
+pub mod Shared
+pub mod Sound
+pub mod Standing
+pub mod Stints
+pub mod Turn
+pub mod Turned
+pub mod Yards
