@@ -31,7 +31,7 @@ WORD = re.compile(BOUND + r"[^\s(){}\[\],;.]+|[^\W\d][\w'«»]*|[ℕℤ⊥λ≡�
 WRITTEN = {"abbrev", "unfoldable", "opaque", "pub", "record", "data", "where", "elim", "as", "in", "ghost", "trait", "props", "_"}
 
 # From the theorem, so many choices lead to these.
-NEAR = {"kdf_theory.Flights.touches": 4, "kdf_lockout.Groups.is_out": 4, "kdf_arith.Rows.plain_row": 6, "kdf_arith.Digits.to_binary": 6}
+NEAR = {"kdf_theory.Flights.touches": 4, "kdf_lockout.Groups.is_out": 4, "kdf_arith.Rows.arith_row": 6, "kdf_arith.Digits.to_binary": 6}
 
 # A word that is taken from the imports of a module, and the definition in which it then has no target.
 SLIPS = [("kdf_top.Due", "seen_of", "report_of"), ("kdf_processor.Lone", "row", "lone_step"), ("kdf_theory.Flights", "has_area", "touches")]

@@ -139,7 +139,7 @@ def all_links_lead_somewhere(running: Browser, file: pathlib.Path) -> Cases:
 def all_texts_are_drawn_as_they_are(running: Browser, file: pathlib.Path, data: Any) -> Cases:
     """The script draws a text letter by letter, whatever letters it has."""
     page = opened(running, file)
-    for key in ("kdf_arith.Rows.plain_row", "kdf_top.Due.verdict_line", "kdf_io.Outside.Advances"):
+    for key in ("kdf_arith.Rows.arith_row", "kdf_top.Due.verdict_line", "kdf_io.Outside.Advances"):
         entry = next(each for each in data.entries if each["k"] == key)
         page.js(f"location.hash = '#{key}'")
         page.wait(f"document.getElementById('entry-title').textContent === {json.dumps(entry['n'])}")

@@ -9,18 +9,18 @@ use Rattle.kdf_processor.specs.declared.spooled.Spooled.{Spooled}
 use Rattle.kdf_processor.specs.Effect.{Releases}
 use Rattle.kdf_processor.specs.Row.{at_once, released}
 use Rattle.kdf_processor.specs.State.{Stock, device_in, is_pooled}
-use Rattle.kdf_alone.specs.declared.place.Place.{Place}
-use Rattle.kdf_alone.specs.declared.place.Place.TheVariants.{Absent, Pooled}
+use Rattle.kdf_alone.specs.declared.lone_place.LonePlace.{LonePlace}
+use Rattle.kdf_alone.specs.declared.lone_place.LonePlace.TheVariants.{Absent, Pooled}
 use Rattle.kdf_alone.specs.declared.stint.Stint.{Stint}
-use Rattle.kdf_alone.specs.Places.{own_fixture_in, pool_kind_in, progress_in, IsWhole}
+use Rattle.kdf_alone.specs.LonePlaces.{own_fixture_in, pool_kind_in, progress_in, IsWhole}
 use Rattle.kdf_alone.specs.Stints.{ended, stint_in, AreLent, IsKept}
 use Rattle.kdf_alone.proofs.Devices.{pool_is, progress_is, seen_stays, stock}
 use Rattle.kdf_alone.proofs.Stints.{all_ended, ended_kept, give_lent, kept_device}
 
 -- at its place, whose number is known by another name too, stands something of the same kind
-module _ (size : ℕ) (served : Bool) (claimed : List Bool) (ps : List Place) (xs : List Stint) (texts : List Spooled) (asked : ℕ) (words : List ℕ) (d n : ℕ)
+module _ (size : ℕ) (served : Bool) (claimed : List Bool) (ps : List LonePlace) (xs : List Stint) (texts : List Spooled) (asked : ℕ) (words : List ℕ) (d n : ℕ)
     (same : n ≡ d) (low : n < length ps)
-    (was place : Place) (at : was ≡ get_or ps n was) (own : own_fixture_in place ≡ own_fixture_in was) (kind : pool_kind_in place ≡ pool_kind_in was) where
+    (was place : LonePlace) (at : was ≡ get_or ps n was) (own : own_fixture_in place ≡ own_fixture_in was) (kind : pool_kind_in place ≡ pool_kind_in was) where
   abbrev before : Stock
   before = stock size served claimed ps xs texts asked words
 

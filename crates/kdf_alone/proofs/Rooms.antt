@@ -3,17 +3,17 @@ use Rattle.std.proofs.Common.{◌≡◌, ◌+◌, ◌-◌, ◌*◌, ◌<◌, ◌
 use Rattle.std.specs.Prelude.{vec_len}
 use Rattle.std.specs.Vec.{vec_capacity}
 use Rattle.kdf_processor.specs.Effect.{Act, Nothing, Writes, Starts, Asks, IsBusy, IsOut, Time, FreeOf, OfService, Acquires, Releases, Spools}
-use Rattle.kdf_alone.specs.declared.bench.Bench.{Bench}
-use Rattle.kdf_alone.specs.declared.place.Place.TheVariants.{Absent}
-use Rattle.kdf_alone.specs.Bench.{CanAsk, HasRoom}
-use Rattle.kdf_alone.specs.Places.{IsReady}
+use Rattle.kdf_alone.specs.declared.lone_port.LonePort.{LonePort}
+use Rattle.kdf_alone.specs.declared.lone_place.LonePlace.TheVariants.{Absent}
+use Rattle.kdf_alone.specs.LonePort.{CanAsk, HasLoneRoom}
+use Rattle.kdf_alone.specs.LonePlaces.{IsReady}
 
-module _ (b new : Bench) (places : new.places ≡ b.places) (block : new.block ≡ b.block) (spooled : new.spooled ≡ b.spooled) (stints : new.stints ≡ b.stints)
+module _ (b new : LonePort) (places : new.places ≡ b.places) (block : new.block ≡ b.block) (spooled : new.spooled ≡ b.spooled) (stints : new.stints ≡ b.stints)
     (asked : new.asked ≡ b.asked) where
   can_ask : CanAsk b → CanAsk new
   can_ask few = subst (λ n. n < 4294967295) (sym asked) few
 
-  pub room_same : (act : Act) → HasRoom b act → HasRoom new act
+  pub room_same : (act : Act) → HasLoneRoom b act → HasLoneRoom new act
   room_same Nothing room = tt
   room_same (Writes a w) room = tt
   room_same (Starts d o first last) room = record {

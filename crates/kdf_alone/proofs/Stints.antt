@@ -1,4 +1,4 @@
--- The stints of a bench.
+-- The stints of a lone port.
 use Rattle.std.specs.Prelude.{◌&&◌, HoldsAt, slice_get, unwrap_or}
 use Rattle.std.specs.List.{All}
 use Rattle.std.specs.Option.{option_map}
@@ -12,13 +12,13 @@ use Rattle.std.proofs.lemmas.Option.{slice_get-get_or}
 use Rattle.std.proofs.lemmas.List.Elements.{All-head, All-map, All-tail}
 use Rattle.kdf_journal.specs.declared.kind.Kind.{Kind}
 use Rattle.kdf_journal.specs.declared.kind.Kind.TheVariants.{Tp}
-use Rattle.kdf_transfer.specs.Devices.{Progress, blank_fixture, is_kind, fixture_of, progress_of}
+use Rattle.kdf_transfer.specs.Devices.{DeviceProgress, blank_fixture, is_kind, fixture_of, progress_of}
 use Rattle.kdf_transfer.specs.declared.device.Device.{Device}
 use Rattle.kdf_processor.specs.declared.registers.Registers.{Registers}
 use Rattle.kdf_processor.specs.declared.spooled.Spooled.{Spooled}
 use Rattle.kdf_transfer.specs.AtOnce.{kind_of}
 use Rattle.kdf_transfer.specs.declared.order.TransferOrder.{TransferOrder}
-use Rattle.kdf_processor.specs.Claims.{claim, is_claimed, kind_at, may_take, taken}
+use Rattle.kdf_processor.specs.Claims.{claim, is_claimed, kind_at, may_take, taken_device}
 use Rattle.kdf_processor.specs.Effect.{Asks, FreeOf, Releases, Starts}
 use Rattle.kdf_processor.specs.Row.{at_once, handed, released}
 use Rattle.kdf_processor.proofs.Lending.{mark_of, moved_lent, own_lent, pool_lent, taken_lent}
@@ -26,37 +26,37 @@ use Rattle.kdf_processor.proofs.Stinting.{taken_can}
 use Rattle.kdf_processor.specs.State as state
 use Rattle.kdf_processor.specs.State.{Lending, State, Stock, device_in, fixture_at, is_pooled, lending_of, lendings, new_registers}
 use Rattle.kdf_processor.specs.Stints.{IsLent, IsStint}
-use Rattle.kdf_alone.specs.declared.place.Place.{Place}
-use Rattle.kdf_alone.specs.declared.place.Place.TheVariants.{Absent, Pooled}
+use Rattle.kdf_alone.specs.declared.lone_place.LonePlace.{LonePlace}
+use Rattle.kdf_alone.specs.declared.lone_place.LonePlace.TheVariants.{Absent, Pooled}
 use Rattle.kdf_alone.specs.declared.stint.Stint.{Stint}
-use Rattle.kdf_alone.specs.Places.{own_fixture_in, pool_kind_in, progress_in, IsWhole}
+use Rattle.kdf_alone.specs.LonePlaces.{own_fixture_in, pool_kind_in, progress_in, IsWhole}
 use Rattle.kdf_alone.specs.Stints.{ended, lent_stock, stint_in, AreLent, HaveOneOpen, IsKept, IsOpen, IsUnlent}
 use Rattle.kdf_alone.proofs.Devices.{claims, pool_is, progress_is, stock}
 use Rattle.kdf_alone.proofs.Takings.{taken_again}
 
 -- ---- what holds of the places, the marks and the stints holds of all that a program has, and the other way round
 
-pub whole_lent : (r : Registers) (size : ℕ) (served : Bool) (claimed : List Bool) (ps : List Place) (xs : List Stint) (texts : List Spooled) (asked : ℕ)
+pub whole_lent : (r : Registers) (size : ℕ) (served : Bool) (claimed : List Bool) (ps : List LonePlace) (xs : List Stint) (texts : List Spooled) (asked : ℕ)
     (words : List ℕ)
     → AreLent ps claimed xs → IsLent (record { registers = r; stock = stock size served claimed ps xs texts asked words })
 whole_lent r size served claimed ps xs texts asked words lent =
     record { places = lent.places; marks = lent.marks; few = lent.few; fresh = lent.fresh; pooled = lent.pooled; held = lent.held; one = lent.one }
 
-pub part_lent : (r : Registers) (size : ℕ) (served : Bool) (claimed : List Bool) (ps : List Place) (xs : List Stint) (texts : List Spooled) (asked : ℕ)
+pub part_lent : (r : Registers) (size : ℕ) (served : Bool) (claimed : List Bool) (ps : List LonePlace) (xs : List Stint) (texts : List Spooled) (asked : ℕ)
     (words : List ℕ)
     → IsLent (record { registers = r; stock = stock size served claimed ps xs texts asked words }) → AreLent ps claimed xs
 part_lent r size served claimed ps xs texts asked words lent =
     record { places = lent.places; marks = lent.marks; few = lent.few; fresh = lent.fresh; pooled = lent.pooled; held = lent.held; one = lent.one }
 
 -- so where that is what an act leaves
-pub left_lent : (size : ℕ) (served : Bool) (claimed : List Bool) (ps : List Place) (xs : List Stint) (texts : List Spooled) (asked : ℕ) (words : List ℕ)
+pub left_lent : (size : ℕ) (served : Bool) (claimed : List Bool) (ps : List LonePlace) (xs : List Stint) (texts : List Spooled) (asked : ℕ) (words : List ℕ)
     (k : Stock)
     → stock size served claimed ps xs texts asked words ≡ k → IsLent (record { registers = new_registers; stock = k }) → AreLent ps claimed xs
 left_lent size served claimed ps xs texts asked words k is lent =
     let Q : Stock → Type 0 = λ k'. IsLent (record { registers = new_registers; stock = k' }) in
     part_lent new_registers size served claimed ps xs texts asked words (subst Q (sym is) lent)
 
-module _ (size : ℕ) (served : Bool) (claimed : List Bool) (ps : List Place) (xs : List Stint) (texts : List Spooled) (asked : ℕ) (words : List ℕ)
+module _ (size : ℕ) (served : Bool) (claimed : List Bool) (ps : List LonePlace) (xs : List Stint) (texts : List Spooled) (asked : ℕ) (words : List ℕ)
     (lent : AreLent ps claimed xs) where
   abbrev k : Stock
   k = stock size served claimed ps xs texts asked words
@@ -67,11 +67,11 @@ module _ (size : ℕ) (served : Bool) (claimed : List Bool) (ps : List Place) (x
   all_lent : IsLent s
   all_lent = whole_lent new_registers size served claimed ps xs texts asked words lent
 
-  pub stays_lent : (ps' : List Place) → stock size served claimed ps' xs texts asked words ≡ k → AreLent ps' claimed xs
+  pub stays_lent : (ps' : List LonePlace) → stock size served claimed ps' xs texts asked words ≡ k → AreLent ps' claimed xs
   stays_lent ps' is = left_lent size served claimed ps' xs texts asked words k is all_lent
 
   -- a transfer on a device that is claimed
-  pub start_lent : (ps' : List Place) (words' : List ℕ) (d : ℕ) (o : TransferOrder) (first last : ℕ) → is_kind (kind_of o) (claim k.claims d) ≡ true
+  pub start_lent : (ps' : List LonePlace) (words' : List ℕ) (d : ℕ) (o : TransferOrder) (first last : ℕ) → is_kind (kind_of o) (claim k.claims d) ≡ true
       → stock size served claimed ps' xs texts asked words' ≡ at_once (Starts d o first last) k → AreLent ps' claimed xs
   start_lent ps' words' d o first last is left =
       left_lent size served claimed ps' xs texts asked words' (at_once (Starts d o first last) k) left
@@ -89,7 +89,7 @@ module _ (size : ℕ) (served : Bool) (claimed : List Bool) (ps : List Place) (x
   released_lent d false is = own_lent s all_lent new_registers d is
 
   -- a device is given back
-  pub give_lent : (claimed' : List Bool) (ps' : List Place) (xs' : List Stint) (d : ℕ)
+  pub give_lent : (claimed' : List Bool) (ps' : List LonePlace) (xs' : List Stint) (d : ℕ)
       → stock size served claimed' ps' xs' texts asked words ≡ at_once (Releases (is_pooled k.claims d) d) k → AreLent ps' claimed' xs'
   give_lent claimed' ps' xs' d left =
       left_lent size served claimed' ps' xs' texts asked words (at_once (Releases (is_pooled k.claims d) d) k) left
@@ -123,7 +123,7 @@ ended_none d device (x ∷ xs) none =
     ap₂ (λ y ys. y ∷ ys) (ended_shut d device x.d x.left (All-head (λ y. IsOpen d y → ⊥) x xs none))
     (ended_none d device xs (All-tail (λ y. IsOpen d y → ⊥) x xs none))
 
-abbrev AreApart : state.Stint → state.Stint → Type 0
+abbrev AreApart : state.StintState → state.StintState → Type 0
 AreApart x y = x.left ≡ None → y.left ≡ None → x.device ≢ y.device
 
 is_shut : (left : Option Device) → left ≡ None → option_map progress_of left ≡ None
@@ -157,7 +157,7 @@ ends_at d device xs i x y one inside unfinished is =
     ap (λ z. set xs i (let w : Stint = record z { left = Some device } in w)) is ∙ sym (ended_at d device xs i y inside (unfinished y) one)
 
 -- so as a state has them
-ended_in : (d : ℕ) (device : Device) (p : Progress) (e : ℕ) (left : Option Device) → progress_of device ≡ p
+ended_in : (d : ℕ) (device : Device) (p : DeviceProgress) (e : ℕ) (left : Option Device) → progress_of device ≡ p
     → stint_in (ended d device (record { d = e; left = left })) ≡ handed d p (stint_in (record { d = e; left = left }))
 ended_in d device p e (Some other) came =
     ⊎_elim
@@ -166,11 +166,11 @@ ended_in d device p e (Some other) came =
     (cases_Bool (eqb e d))
 ended_in d device p e None came =
     ⊎_elim
-    (λ (is : eqb e d ≡ true). rw is (ap (λ q. (let x : state.Stint = record { device = e; left = Some q } in x)) came))
+    (λ (is : eqb e d ≡ true). rw is (ap (λ q. (let x : state.StintState = record { device = e; left = Some q } in x)) came))
     (λ (no : eqb e d ≡ false). rw no refl)
     (cases_Bool (eqb e d))
 
-pub all_ended : (d : ℕ) (device : Device) (p : Progress) (xs : List Stint) → progress_of device ≡ p
+pub all_ended : (d : ℕ) (device : Device) (p : DeviceProgress) (xs : List Stint) → progress_of device ≡ p
     → map stint_in (map (ended d device) xs) ≡ map (handed d p) (map stint_in xs)
 all_ended d device p [] came = refl
 all_ended d device p (x ∷ xs) came = ap₂ (λ y ys. y ∷ ys) (ended_in d device p x.d x.left came) (all_ended d device p xs came)
@@ -197,10 +197,10 @@ ended_kept pool d device xs new kept = All-map (IsKept pool) (ended d device) xs
     (λ i x lt. kept_one pool d device (get_or xs i x).d (get_or xs i x).left new (kept i x lt))
 
 -- what a stint keeps that is over is a device of the pool
-pub kept_device : (ps : List Place) (d : ℕ) (device : Device) → get_or ps d Absent ≡ Pooled device → IsWhole (get_or ps d Absent)
+pub kept_device : (ps : List LonePlace) (d : ℕ) (device : Device) → get_or ps d Absent ≡ Pooled device → IsWhole (get_or ps d Absent)
     → IsKept (map pool_kind_in ps) (record { d = d; left = Some device })
 kept_device ps d device is whole =
-    let Q : Place → Type 0 = IsWhole in
+    let Q : LonePlace → Type 0 = IsWhole in
     sym (subst Q is whole) ∙ ap (λ (o : Option Kind). Some (blank_fixture (unwrap_or o Tp))) (sym (pool_is ps d ∙ ap pool_kind_in is))
 
 -- ---- at the start
@@ -209,7 +209,7 @@ nothing : {X : Type 0} (P : X → Type 0) (xs : List X) → xs ≡ [] → All P 
 nothing P xs none i d inside = absurd (let n = ap length none in omega arith)
 
 -- no stint has begun, and no device of the pool has moved anything
-pub begun_lent : (ps : List Place) (claimed : List Bool) (xs : List Stint) → length ps ≡ 16 → length claimed ≡ 16 → All IsUnlent ps → xs ≡ []
+pub begun_lent : (ps : List LonePlace) (claimed : List Bool) (xs : List Stint) → length ps ≡ 16 → length claimed ≡ 16 → All IsUnlent ps → xs ≡ []
     → AreLent ps claimed xs
 begun_lent ps claimed xs places marks unlent none =
     record {
@@ -217,8 +217,8 @@ begun_lent ps claimed xs places marks unlent none =
       marks = marks;
       few = few;
       fresh = λ d pooled free. progress_is ps d ∙ unlent d Absent (omega (arith, few d pooled)) (ap is_some (sym (pool_is ps d)) ∙ pooled);
-      pooled = nothing (λ (x : state.Stint). is_pooled (lent_stock ps claimed xs).claims x.device ≡ true) (map stint_in xs) (ap (map stint_in) none);
-      held = nothing (λ (x : state.Stint). x.left ≡ None → get_or claimed x.device false ≡ true) (map stint_in xs) (ap (map stint_in) none);
+      pooled = nothing (λ (x : state.StintState). is_pooled (lent_stock ps claimed xs).claims x.device ≡ true) (map stint_in xs) (ap (map stint_in) none);
+      held = nothing (λ (x : state.StintState). x.left ≡ None → get_or claimed x.device false ≡ true) (map stint_in xs) (ap (map stint_in) none);
       one = λ i j d less inside. absurd (let n = ap (λ ys. length (map stint_in ys)) none in omega arith);
     }
   where
@@ -238,7 +238,7 @@ unfolding lendings
 count_lent k xs is = length-map k.stints (lending_of k) ∙ ap length is ∙ length-map xs stint_in
 
 -- the stint at a place
-pub stint_lent : (see : state.Stint → Lending) (xs : List Stint) (i : ℕ) (x : Stint) → i < length xs → x ≡ get_or xs i x
+pub stint_lent : (see : state.StintState → Lending) (xs : List Stint) (i : ℕ) (x : Stint) → i < length xs → x ≡ get_or xs i x
     → slice_get (map see (map stint_in xs)) i ≡ Some (see (stint_in x))
 stint_lent see xs i x inside here =
     let m = length-map xs stint_in in
@@ -250,11 +250,12 @@ some_same : {X : Type 0} (x y : X) → Some x ≡ Some y → x ≡ y
 some_same x y e = cc
 
 -- a stint is of a number of the pool
-pub pooled_number : (ps : List Place) (claimed : List Bool) (xs : List Stint) (i : ℕ) (x : Stint) → AreLent ps claimed xs → i < length xs → x ≡ get_or xs i x
+pub pooled_number : (ps : List LonePlace) (claimed : List Bool) (xs : List Stint) (i : ℕ) (x : Stint) → AreLent ps claimed xs → i < length xs
+    → x ≡ get_or xs i x
     → is_some (get_or (map pool_kind_in ps) x.d None) ≡ true
 pooled_number ps claimed xs i x lent inside here =
     let n = length-map xs stint_in in
-    let Q : state.Stint → Type 0 = λ y. is_some (get_or (map pool_kind_in ps) y.device None) ≡ true in
+    let Q : state.StintState → Type 0 = λ y. is_some (get_or (map pool_kind_in ps) y.device None) ≡ true in
     subst Q (get_or-map stint_in xs i x ∙ ap stint_in (sym here)) (lent.pooled i (stint_in x) (omega arith))
 
 -- one that was given back
@@ -269,7 +270,7 @@ told_given k x device is kept =
     }
 
 -- and one that wasn't
-pub told_held : (size : ℕ) (served : Bool) (claimed : List Bool) (ps : List Place) (xs : List Stint) (texts : List Spooled) (asked : ℕ) (words : List ℕ)
+pub told_held : (size : ℕ) (served : Bool) (claimed : List Bool) (ps : List LonePlace) (xs : List Stint) (texts : List Spooled) (asked : ℕ) (words : List ℕ)
     (x : Stint) (device : Device)
     → x.left ≡ None → get_or ps x.d Absent ≡ Pooled device → IsWhole (get_or ps x.d Absent)
     → IsStint (lending_of (stock size served claimed ps xs texts asked words) (stint_in x)) x.d false device
@@ -284,20 +285,21 @@ told_held size served claimed ps xs texts asked words x device none is whole =
 
 -- ---- a device of the pool is taken
 
-pub stock_taken : (size : ℕ) (served : Bool) (claimed : List Bool) (ps : List Place) (xs ys : List Stint) (texts : List Spooled) (asked : ℕ) (words : List ℕ)
+pub stock_taken : (size : ℕ) (served : Bool) (claimed : List Bool) (ps : List LonePlace) (xs ys : List Stint) (texts : List Spooled) (asked : ℕ)
+    (words : List ℕ)
     (kind : Kind) (a d n : ℕ)
-    → may_take (claims size served claimed ps) kind ≡ true → d ≡ taken (claims size served claimed ps) kind a → n ≡ d
+    → may_take (claims size served claimed ps) kind ≡ true → d ≡ taken_device (claims size served claimed ps) kind a → n ≡ d
     → ys ≡ xs ++ record { d = d; left = None } ∷ []
-    → stock size served (set claimed n true) ps ys texts (asked + 1) words ≡ at_once (Asks (FreeOf kind) (taken (claims size served claimed ps) kind a))
+    → stock size served (set claimed n true) ps ys texts (asked + 1) words ≡ at_once (Asks (FreeOf kind) (taken_device (claims size served claimed ps) kind a))
     (stock size served claimed ps xs texts asked words)
 stock_taken size served claimed ps xs ys texts asked words kind a d n may is same pushed =
     let c = claims size served claimed ps in
-    let e : ℕ = taken c kind (taken c kind a) in
+    let e : ℕ = taken_device c kind (taken_device c kind a) in
     let number : d ≡ e = is ∙ sym (taken_again c kind a may) in
     let mark : n ≡ e = same ∙ number in
     let more : map stint_in ys ≡ map stint_in xs ++ record { device = e; left = None } ∷ [] =
     ap (map stint_in) pushed ∙ map-append stint_in xs (record { d = d; left = None } ∷ [])
-    ∙ ap (λ m. map stint_in xs ++ (let x : state.Stint = record { device = m; left = None } in x) ∷ []) number in
+    ∙ ap (λ m. map stint_in xs ++ (let x : state.StintState = record { device = m; left = None } in x) ∷ []) number in
     λ i. record {
       claims = record { size = size; claimed = set claimed (mark i) true; fixtures = map own_fixture_in ps; pool = map pool_kind_in ps; served = served };
       spooled = texts;

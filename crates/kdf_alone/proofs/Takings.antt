@@ -13,7 +13,7 @@ use Rattle.kdf_transfer.specs.declared.order.TransferOrder.{TransferOrder}
 use Rattle.kdf_transfer.specs.declared.test.Test.TheVariants.{Flag, Start, Mark}
 use Rattle.kdf_transfer.specs.declared.wanted.Wanted.TheVariants.{Kinded, Labelled}
 use Rattle.kdf_processor.specs.declared.registers.Registers.{Registers}
-use Rattle.kdf_processor.specs.Claims.{claim, free_for, is_claimed, kind_numbered, least_pooled, may_take, taken}
+use Rattle.kdf_processor.specs.Claims.{claim, free_for, is_claimed, kind_numbered, least_pooled, may_take, taken_device}
 use Rattle.kdf_processor.specs.Effect.{Change, Refused, Going, of_change, Effect, Failing, Ending, Changing, Fetching, Keeping, Testing, Starting, Asking}
 use Rattle.kdf_processor.specs.Effect.{IsBusy, IsOut, Time, FreeOf, OfService, Claiming, Returning, Spooling}
 use Rattle.kdf_processor.specs.Needs.{effect_or_liv, next_effect, order_at}
@@ -24,15 +24,15 @@ use Rattle.kdf_processor.specs.Table.{indirect_half, is_area, moves, on_top, out
 use Rattle.kdf_processor.proofs.EachEffect.{each_effect}
 use Rattle.kdf_processor.proofs.Fit.{IsFit, next_fit}
 use Rattle.kdf_processor.proofs.Stinting.{taken_can}
-use Rattle.kdf_alone.specs.Bench.{given}
+use Rattle.kdf_alone.specs.LonePort.{given}
 
 -- what is taken where what is taken is the answer
-pub taken_again : (c : Claims) (kind : Kind) (a : ℕ) → may_take c kind ≡ true → taken c kind (taken c kind a) ≡ taken c kind a
-taken_again c kind a may = ap (λ b. cond b (taken c kind a) (unwrap_or (least_pooled c kind) 0)) (taken_can c kind a may)
+pub taken_again : (c : Claims) (kind : Kind) (a : ℕ) → may_take c kind ≡ true → taken_device c kind (taken_device c kind a) ≡ taken_device c kind a
+taken_again c kind a may = ap (λ b. cond b (taken_device c kind a) (unwrap_or (least_pooled c kind) 0)) (taken_can c kind a may)
 
 -- an order that takes from the pool leaves its registers by the device that it takes
 abbrev pub IsByTaken : Claims → Effect → Type 0
-IsByTaken c (Asking (FreeOf kind) after) = (a : ℕ) → may_take c kind ≡ true → after (taken c kind a) ≡ after a
+IsByTaken c (Asking (FreeOf kind) after) = (a : ℕ) → may_take c kind ≡ true → after (taken_device c kind a) ≡ after a
 IsByTaken c _ = Unit {0}
 
 either_by : (c : Claims) (b : Bool) (x y : Effect) → IsByTaken c x → IsByTaken c y → IsByTaken c (cond b x y)
@@ -101,7 +101,7 @@ found_by c r rest (Some d) = tt
 takes_by : (c : Claims) (r : Registers) (rest : List ℕ) (kind : Kind) (o : Option ℕ) → IsByTaken c (claims_or_takes c r rest kind o)
 takes_by c r rest kind (Some d) = tt
 takes_by c r rest kind None =
-    either_by c (may_take c kind) (Asking (FreeOf kind) (λ a. with_nest 1 (taken c kind a ∷ rest) r)) (Failing Claim)
+    either_by c (may_take c kind) (Asking (FreeOf kind) (λ a. with_nest 1 (taken_device c kind a ∷ rest) r)) (Failing Claim)
     (λ a may. ap (λ d. with_nest 1 (d ∷ rest) r) (taken_again c kind a may)) tt
 
 kind_by : (c : Claims) (r : Registers) (rest : List ℕ) (o : Option Kind) → IsByTaken c (claims_kind c r rest o)

@@ -6,8 +6,8 @@ use Rattle.kdf_word.specs.Characters.{first_word, words_of}
 use Rattle.kdf_transfer.specs.AtOnce.{given, offered, finished}
 use Rattle.kdf_decode.specs.Decoding.{decoded}
 use Rattle.kdf_syllable.specs.Spelling.{spelling}
-use Rattle.kdf_arith.specs.Arith.{arith}
-use Rattle.kdf_arith.specs.Rows.{plain_row as arith_row}
+use Rattle.kdf_arith.specs.Arith.{arith_result}
+use Rattle.kdf_arith.specs.Rows.{arith_row}
 use Rattle.kdf_processor.specs.declared.registers.Life.TheVariants.{Ended}
 use Rattle.kdf_processor.specs.Claims.{free_for}
 use Rattle.kdf_processor.specs.Lone.{lone}
@@ -62,7 +62,7 @@ pub reading_ends : seen 3 32 33 (reads 11) ≡ record {
   claimed = true;
   device = record { place = 16; flag = false; mark = false; blocks = []; recorded = [] };
 }
-unfolding after_read first_word words_of given offered finished decoded arith arith_row free_for unclaimed plain_row out_effect brought from_top changed
+unfolding after_read first_word words_of given offered finished decoded arith_result arith_row free_for unclaimed plain_row out_effect brought from_top changed
     single_row decision direct_effect transfer_of guarded
 reading_ends = ap (λ (image : List ℕ). seen 3 32 33 (lone (begin (with_reader image)) [] 11)) reading_image
 
@@ -77,7 +77,7 @@ pub printing_ends : seen 5 32 33 (prints 12) ≡ record {
       true;
   device = record { place = 1; flag = false; mark = false; blocks = (replicate 8 0 ++ 2 ∷ 33 ∷ 61 ∷ []) ∷ []; recorded = [] };
 }
-unfolding printed first_word words_of given offered finished decoded arith arith_row free_for unclaimed plain_row out_effect brought from_top changed
+unfolding printed first_word words_of given offered finished decoded arith_result arith_row free_for unclaimed plain_row out_effect brought from_top changed
     single_row decision direct_effect transfer_of guarded
 printing_ends = ap (λ (image : List ℕ). seen 5 32 33 (lone (begin (with_printer image)) [] 12)) printing_image
 
@@ -101,6 +101,6 @@ pub writing_ends : seen 6 32 33 (writes 12) ≡ record {
             ∷ record { words = 0o4141414141414141 ∷ 0o4242424242424242 ∷ []; mark = true } ∷ [];
       };
 }
-unfolding after_skip after_write first_word words_of given offered finished decoded arith arith_row free_for unclaimed plain_row out_effect brought from_top
-    changed single_row decision direct_effect transfer_of query_effect guarded
+unfolding after_skip after_write first_word words_of given offered finished decoded arith_result arith_row free_for unclaimed plain_row out_effect brought
+    from_top changed single_row decision direct_effect transfer_of query_effect guarded
 writing_ends = ap (λ (image : List ℕ). seen 6 32 33 (lone (begin (with_tape image)) [] 12)) writing_image

@@ -1,5 +1,5 @@
-pub mod Bench
-pub mod Places
+pub mod LonePort
+pub mod LonePlaces
 pub mod Program
 pub mod Stints
 pub mod Worked

@@ -1,6 +1,6 @@
 -- What a program by itself is answered, and a device as its state has it.
 use Rattle.std.specs.Prelude.{◌≡◌, ℕ, List, Option, Some, None, is_some, slice_index, true}
-use Rattle.kdf_job.specs.Job.{SlotJob}
+use Rattle.kdf_job.specs.Job.{ShownSlot}
 use Rattle.kdf_job.specs.Slots.{lent_kind, numbered}
 use Rattle.kdf_transfer.specs.Devices.{fixture_of, progress_of}
 use Rattle.kdf_transfer.specs.declared.device.Device.{Device}
@@ -8,7 +8,7 @@ use Rattle.kdf_processor.specs.Effect.{Question}
 use Rattle.kdf_processor.specs.State.{State, device_at, own_fixture_at}
 
 -- no number is both a device's of a slot and one's of the pool
-abbrev pub IsApart : SlotJob → Type 0
+abbrev pub IsApart : ShownSlot → Type 0
 IsApart s = (d : ℕ) → is_some (lent_kind s.pool d) ≡ true → numbered s.devices d ≡ None
 
 -- the answer whose place is the number of those that were taken, or 0 past the end, whatever is asked

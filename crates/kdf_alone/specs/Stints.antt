@@ -10,12 +10,12 @@ use Rattle.kdf_transfer.specs.declared.device.Device.{Device}
 use Rattle.kdf_processor.specs.State.{State, Stock, new_registers}
 use Rattle.kdf_processor.specs.State as state
 use Rattle.kdf_processor.specs.Stints.{IsLent}
-use Rattle.kdf_alone.specs.declared.place.Place.{Place}
+use Rattle.kdf_alone.specs.declared.lone_place.LonePlace.{LonePlace}
 use Rattle.kdf_alone.specs.declared.stint.Stint.{Stint}
-use Rattle.kdf_alone.specs.Places.{pool_kind_in, progress_in}
+use Rattle.kdf_alone.specs.LonePlaces.{pool_kind_in, progress_in}
 
 -- a stint as a state has it
-abbrev pub stint_in : Stint → state.Stint
+abbrev pub stint_in : Stint → state.StintState
 stint_in x = record { device = x.d; left = option_map progress_of x.left }
 
 -- one that was given back kept a device of the pool
@@ -25,7 +25,7 @@ IsKept pool x =
     ≡ option_map (λ _. blank_fixture (unwrap_or (slice_index_or pool x.d None) Tp)) x.left
 
 -- a program that has these places, marks and stints, and nothing else
-abbrev pub lent_stock : List Place → List Bool → List Stint → Stock
+abbrev pub lent_stock : List LonePlace → List Bool → List Stint → Stock
 lent_stock places claimed stints =
     record {
       claims = record { size = 0; claimed = claimed; fixtures = []; pool = map pool_kind_in places; served = false };
@@ -37,7 +37,7 @@ lent_stock places claimed stints =
     }
 
 -- its stints are as those of a state are
-abbrev pub AreLent : List Place → List Bool → List Stint → Type 0
+abbrev pub AreLent : List LonePlace → List Bool → List Stint → Type 0
 AreLent places claimed stints =
     IsLent (record { registers = new_registers; stock = lent_stock places claimed stints })
 
@@ -53,9 +53,9 @@ ended d device x =
 -- of the stints of one device one at most isn't given back
 abbrev pub HaveOneOpen : List Stint → Type 0
 HaveOneOpen stints =
-    AllPairs (λ (x y : state.Stint). x.left ≡ None → y.left ≡ None → x.device ≢ y.device)
+    AllPairs (λ (x y : state.StintState). x.left ≡ None → y.left ≡ None → x.device ≢ y.device)
     (map stint_in stints)
 
 -- a device of the pool has moved nothing
-abbrev pub IsUnlent : Place → Type 0
+abbrev pub IsUnlent : LonePlace → Type 0
 IsUnlent place = is_some (pool_kind_in place) ≡ true → progress_in place ≡ new_progress

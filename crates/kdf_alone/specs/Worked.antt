@@ -3,7 +3,7 @@ use Rattle.std.specs.Prelude.{ℕ, ◌+◌, ◌-◌, Bool, true, false, List, []
 use Rattle.std.specs.List.{range_with_len}
 use Rattle.kdf_journal.specs.declared.kind.Kind.TheVariants.{Tr, Lp, Mt}
 use Rattle.kdf_tape.specs.Tape.{Recorded}
-use Rattle.kdf_transfer.specs.Devices.{Fixture, Progress, new_progress}
+use Rattle.kdf_transfer.specs.Devices.{Fixture, DeviceProgress, new_progress}
 use Rattle.kdf_place.specs.Assembled.{image_words}
 use Rattle.kdf_processor.specs.declared.registers.Life.{Life}
 use Rattle.kdf_processor.specs.Claims.{is_claimed}
@@ -25,7 +25,7 @@ writing =
     codes "PROGRAM V1; V0=Q0/32/33; V1=PT; V1; SET 4; OUT; V0; =Q1; =C1; MFRQ1; MLWQ1; MLBQ1; ZERO; OUT; FINISH;" ++ 10 ∷ []
 
 -- a store of this size with this image, and one device
-abbrev pub with_device : ℕ → ℕ → Fixture → Progress → List ℕ → Slot
+abbrev pub with_device : ℕ → ℕ → Fixture → DeviceProgress → List ℕ → Slot
 with_device size d fixture progress image =
     record {
       p = 0;
@@ -78,7 +78,7 @@ pub record Seen : Type 0 where
   pub nest : List ℕ
   pub words : List ℕ
   pub claimed : Bool
-  pub device : Progress
+  pub device : DeviceProgress
 
 abbrev pub seen : ℕ → ℕ → ℕ → State → Seen
 seen d first last s =

@@ -9,11 +9,11 @@ ghost use Rattle.kdf_processor.specs.Lone.{is_live, lone};
 ghost use Rattle.kdf_processor.specs.Row.{next_of, row};
 ghost use Rattle.kdf_processor.specs.State.{begin, lendings, word_at};
 ghost use Rattle.kdf_processor.specs.Stints.{IsStint};
-ghost use Rattle.kdf_alone.specs.Bench.{words_of};
+ghost use Rattle.kdf_alone.specs.LonePort.{words_of};
 ghost use Rattle.kdf_alone.specs.Program.{given_by, IsApart, IsDeviceAt};
 
-use crate::bench::Bench;
 use crate::loading::load_bench;
+use crate::lone_port::LonePort;
 use crate::obeying::obey_next;
 use kdf_job::SlotJob;
 use kdf_place::Image;
@@ -27,13 +27,13 @@ use std::marker::Model;
 #[derive(Drop)]
 pub struct Alone {
     registers: Registers,
-    bench: Bench,
+    bench: LonePort,
 }
 
 impl Model for Alone {
     ghost use Rattle.std.specs.Prelude.{◌≤◌};
     ghost use Rattle.kdf_processor.specs.State.{State};
-    ghost use Rattle.kdf_alone.specs.Bench.{state_with};
+    ghost use Rattle.kdf_alone.specs.LonePort.{state_with};
 
     ghost Value = { State };
 

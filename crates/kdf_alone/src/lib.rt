@@ -2,14 +2,14 @@
 #![tactic(auto)]
 
 mod alone;
-mod bench;
 mod loading;
+mod lone_place;
+mod lone_port;
 mod obeying;
-mod place;
 mod stint;
 mod text;
 pub mod worked;
 
 pub use alone::Alone;
-pub use bench::Bench;
 pub use loading::load_bench;
+pub use lone_port::LonePort;

@@ -1,10 +1,10 @@
-//! Obeying one order over a bench.
+//! Obeying one order over a lone port.
 ghost use Rattle.std.specs.Prelude.{◌≡◌, ◌<◌, ◌≤◌, IfOk, OnOk, OnErr};
 ghost use Rattle.kdf_processor.specs.Buffered.{Agrees};
 ghost use Rattle.kdf_processor.specs.Row.{next_of, row};
-ghost use Rattle.kdf_alone.specs.Bench.{shown, state_with};
+ghost use Rattle.kdf_alone.specs.LonePort.{shown, state_with};
 
-use crate::bench::Bench;
+use crate::lone_port::LonePort;
 use kdf_processor::{Buffer, Life, Registers, Step, obey_buffered};
 use std::alloc::AllocError;
 
@@ -12,7 +12,7 @@ use std::alloc::AllocError;
 #[inline(always)]
 pub fn obey_next(
     registers: &mut Registers,
-    bench: &mut Bench,
+    bench: &mut LonePort,
     held: &mut Option<Buffer>,
     answer: u64,
 ) -> Result<Step, AllocError>

@@ -5,7 +5,7 @@ use Rattle.std.specs.Int.{int_div_euclid, int_rem_euclid, IsNonNegative}
 use Rattle.std.proofs.lemmas.Int.{ints, to_z-of_z}
 use Rattle.std.proofs.lemmas.Nat.{mod_below, div-add-mod'}
 use Rattle.kdf_word.specs.Doubles.{floor_div, modulo}
-use Rattle.kdf_word.proofs.Wide.{quotient as quotient_of, remainder}
+use Rattle.kdf_word.proofs.Wide.{euclid_quotient, euclid_remainder}
 use Rattle.kdf_arith.specs.Rows.{quotient}
 
 -- what a quotient leaves
@@ -54,7 +54,7 @@ remainder_by_negative v (negsuc k) r h fv fd fr gv gd gr e =
     let second : int_rem_euclid (neg_ℤ v) (machine_neg d) ≡ int_rem_euclid (neg_ℤ v) (pos (suc k)) =
     ap (λ (x : ℤ). int_rem_euclid (neg_ℤ v) x) (negated d fd gd) in
     let value : r ≡ pos (modulo (neg_ℤ v) (suc k)) =
-    e ∙ first ∙ second ∙ remainder (neg_ℤ v) (suc k) in
+    e ∙ first ∙ second ∙ euclid_remainder (neg_ℤ v) (suc k) in
     negated r fr gr ∙ ap neg_ℤ value ∙ remainder_down v k
 
 -- a call gets numbers as they are cast
@@ -63,14 +63,14 @@ as_passed f v d r fv fd e = e ∙ ap (λ (x : ℤ). f x (to_z w64 (of_z w64 d)))
 
 -- by a positive divisor the machine rounds down
 quotient_down : (v d : ℤ) → pos 0 <ℤ d → int_div_euclid v d ≡ quotient v d
-quotient_down v (pos n) h = quotient_of v n
+quotient_down v (pos n) h = euclid_quotient v n
 quotient_down v (negsuc k) h = absurd (omega (arith, ints))
 
 remainder_left : (v d : ℤ) → pos 0 <ℤ d → int_rem_euclid v d ≡ v -ℤ quotient v d *ℤ d
 remainder_left v (pos zero) h = absurd (omega (arith, ints))
 remainder_left v (pos (suc k)) h =
     let whole = parts v k in
-    remainder v (suc k) ∙ omega (arith, ints, whole)
+    euclid_remainder v (suc k) ∙ omega (arith, ints, whole)
 remainder_left v (negsuc k) h = absurd (omega (arith, ints))
 
 pub quotient_by_positive : (v d q : ℤ) → pos 0 <ℤ d → FitsSigned w64 v → FitsSigned w64 d →

@@ -3,12 +3,12 @@ use Rattle.std.proofs.Common.{◌≡◌, ℕ, ◌+◌, ◌*◌, ◌^◌, [], ◌
 use Rattle.std.specs.Prelude.{count_ones}
 use Rattle.std.specs.Int.Count.{ones-ones}
 use Rattle.std.proofs.lemmas.Nat.{ones_cat, pow_pos}
-use Rattle.kdf_arith.specs.Arith.{arith as obey}
-use Rattle.kdf_arith.specs.Rows.{plain_row}
+use Rattle.kdf_arith.specs.Arith.{arith_result}
+use Rattle.kdf_arith.specs.Rows.{arith_row}
 use Rattle.kdf_arith.specs.Examples.{obeyed, leaves}
 
 pub bits_of : (w k : ℕ) → count_ones w ≡ k → obeyed 0x0E (w ∷ []) ≡ leaves (k ∷ [])
-unfolding obey plain_row
+unfolding arith_result arith_row
 bits_of w k e = ap (λ n. leaves (n ∷ [])) e
 
 -- a one with k noughts after it

@@ -1,7 +1,7 @@
 -- What an order of arithmetic does to the nest and the flags, or none where operands or room are
 -- missing.
 use Rattle.std.specs.Prelude.{ℕ, ℤ, ◌^◌, ◌≤◌, ◌≡◌, ◌⊎◌, ◌||◌, false, List, ◌∷◌, length, Option, Some, None, if◌then◌else◌, ◌==◌, nat_le}
-use Rattle.kdf_arith.specs.Rows.{After, plain_row}
+use Rattle.kdf_arith.specs.Rows.{After, arith_row}
 use Rattle.kdf_arith.specs.Shifts.{shift_row}
 use Rattle.kdf_arith.specs.declared.flags.Flags.{Flags}
 use Rattle.kdf_arith.specs.declared.order.ArithOrder.{ArithOrder}
@@ -27,7 +27,7 @@ in_room None = None
 in_room (Some a) = if nat_le (length a.nest) 16 then Some a else None
 
 abbrev pub plain : ℕ → List ℕ → Option After
-plain code nest = in_room (plain_row code nest)
+plain code nest = in_room (arith_row code nest)
 
 abbrev pub shift : ℕ → ℤ → List ℕ → Option After
 shift code n nest = in_room (shift_row code n nest)
@@ -63,6 +63,6 @@ abbrev pub shift_arith : ℕ → ℤ → List ℕ → Flags → Option Arith
 shift_arith code n nest flags = with_v (shift code n nest) flags
 
 -- an order of arithmetic
-unfoldable pub arith : ArithOrder → List ℕ → Flags → Option Arith
-arith (Plain code) nest flags = plain_arith code nest flags
-arith (Shift code n) nest flags = shift_arith code n nest flags
+unfoldable pub arith_result : ArithOrder → List ℕ → Flags → Option Arith
+arith_result (Plain code) nest flags = plain_arith code nest flags
+arith_result (Shift code n) nest flags = shift_arith code n nest flags

@@ -2,7 +2,7 @@
 use Rattle.std.specs.Prelude.{ℕ, ℤ, ◌-◌, ◌^◌, Bool, true, false, List, Option, Some}
 use Rattle.kdf_arith.specs.declared.flags.Flags.{Flags}
 use Rattle.kdf_arith.specs.declared.order.ArithOrder.TheVariants.{Plain, Shift}
-use Rattle.kdf_arith.specs.Arith.{Arith, arith}
+use Rattle.kdf_arith.specs.Arith.{Arith, arith_result}
 
 -- the words of which the value is -2^47, 2^47 - 1, and -n
 abbrev pub least : ℕ
@@ -27,11 +27,11 @@ tested v = record { v = v; tr = true }
 
 -- an order of one syllable over a nest, the flags being clear
 abbrev pub obeyed : ℕ → List ℕ → Option Arith
-obeyed code nest = arith (Plain code) nest clear
+obeyed code nest = arith_result (Plain code) nest clear
 
 -- a shift likewise
 abbrev pub shifted : ℕ → ℤ → List ℕ → Option Arith
-shifted code n nest = arith (Shift code n) nest clear
+shifted code n nest = arith_result (Shift code n) nest clear
 
 -- it leaves this nest, and the flags clear
 abbrev pub leaves : List ℕ → Option Arith

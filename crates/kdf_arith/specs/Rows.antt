@@ -64,8 +64,8 @@ frb a b below =
     record { nest = (from_binary 8 a b).word ∷ below; sets_v = not ((from_binary 8 a b).rest == 0) }
 
 -- the rows of plain orders
-unfoldable pub plain_row : ℕ → List ℕ → Option After
-plain_row code nest =
+unfoldable pub arith_row : ℕ → List ℕ → Option After
+arith_row code nest =
     if code == 0x02 then one nest (λ a. words [])  -- ERASE
     else (if code == 0x03 then one nest (λ a. words (a ∷ a ∷ []))  -- DUP
     else (if code == 0x04 then two nest (λ a b. words (a ∷ b ∷ a ∷ b ∷ []))  -- DUPD

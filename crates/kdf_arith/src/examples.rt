@@ -1,10 +1,10 @@
 //! Examples of each row, at the ends of its operands too, each computed from the table, as the contract
 //! of a function that does nothing.
-#![tactic(auto, unfolding(crate::specs::Arith::arith, crate::specs::Rows::plain_row, crate::specs::Shifts::shift_row, crate::specs::Digits::to_binary, crate::specs::Digits::from_binary))]
+#![tactic(auto, unfolding(crate::specs::Arith::arith_result, crate::specs::Rows::arith_row, crate::specs::Shifts::shift_row, crate::specs::Digits::to_binary, crate::specs::Digits::from_binary))]
 
 ghost use Rattle.std.specs.Prelude.{◌≡◌, ◌-◌, ◌^◌, [], ◌∷◌, None, pos, negsuc, replicate, true, false};
 ghost use Rattle.kdf_arith.specs.declared.order.ArithOrder.TheVariants.{Plain};
-ghost use Rattle.kdf_arith.specs.Arith.{arith};
+ghost use Rattle.kdf_arith.specs.Arith.{arith_result};
 ghost use Rattle.kdf_arith.specs.Examples.{least, greatest, minus, overflow, tested, obeyed, shifted, leaves, overflows, leaves_so};
 
 /// ERASE, DUP, DUPD and ZERO.
@@ -154,11 +154,11 @@ pub fn characters()
 /// =TR and VR leave the other flag. No order of arithmetic clears V but VR.
 pub fn flags()
     ensures negative { obeyed 0x1F (least ∷ 2 ∷ []) ≡ leaves_so (tested false) (2 ∷ []) }
-    ensures positive { arith (Plain 0x1F) (greatest ∷ []) (tested true) ≡ overflows [] }
+    ensures positive { arith_result (Plain 0x1F) (greatest ∷ []) (tested true) ≡ overflows [] }
     ensures no_word { obeyed 0x1F [] ≡ None }
-    ensures reset { arith (Plain 0x20) (5 ∷ []) overflow ≡ leaves (5 ∷ []) }
-    ensures reset_clear { arith (Plain 0x20) [] (tested true) ≡ leaves_so (tested false) [] }
-    ensures stays { arith (Plain 0x11) (1 ∷ 2 ∷ []) overflow ≡ overflows (3 ∷ []) }
+    ensures reset { arith_result (Plain 0x20) (5 ∷ []) overflow ≡ leaves (5 ∷ []) }
+    ensures reset_clear { arith_result (Plain 0x20) [] (tested true) ≡ leaves_so (tested false) [] }
+    ensures stays { arith_result (Plain 0x11) (1 ∷ 2 ∷ []) overflow ≡ overflows (3 ∷ []) }
 {}
 
 /// SHA to the right rounds to the nearest.

@@ -2,7 +2,7 @@
 ghost use Rattle.std.specs.Prelude.{◌≡◌, ◌≢◌, Some, None, OnOk, OnErr};
 ghost use Rattle.std.specs.Int.{IsInRange};
 ghost use Rattle.kdf_arith.specs.declared.order.ArithOrder.TheVariants.{Plain, Shift};
-ghost use Rattle.kdf_arith.specs.Arith.{arith, plain, to_tr, IsArithOrder, IsPlainCode, IsShiftCode};
+ghost use Rattle.kdf_arith.specs.Arith.{arith_result, plain, to_tr, IsArithOrder, IsPlainCode, IsShiftCode};
 ghost use Rattle.kdf_arith.specs.Outcome.{Makes, Obeys};
 
 use crate::operands::take_one;
@@ -18,12 +18,12 @@ use kdf_nest::Nest;
 ///
 /// # Errors
 /// Nouv where the nest has fewer words than the order needs, or would have more than sixteen. Then nothing has changed.
-#[tactic(auto, unfolding(crate::specs::Arith::arith))]
+#[tactic(auto, unfolding(crate::specs::Arith::arith_result))]
 pub fn obey_arith(nest: &mut Nest, flags: &mut Flags, order: ArithOrder) -> Result<(), Nouv>
     requires { IsArithOrder order }
     ensures ok { OnOk result
-        (arith order nest.old flags.old ≡ Some (record { nest = nest.new; flags = flags.new })) }
-    ensures err { OnErr result (arith order nest.old flags.old ≡ None) }
+        (arith_result order nest.old flags.old ≡ Some (record { nest = nest.new; flags = flags.new })) }
+    ensures err { OnErr result (arith_result order nest.old flags.old ≡ None) }
     ensures same_nest { OnErr result (nest.new ≡ nest.old) }
     ensures same_flags { OnErr result (flags.new ≡ flags.old) }
 {
@@ -37,11 +37,11 @@ pub fn obey_arith(nest: &mut Nest, flags: &mut Flags, order: ArithOrder) -> Resu
 ///
 /// # Errors
 /// As those of `obey_arith`.
-#[tactic(auto, unfolding(crate::specs::Arith::arith))]
+#[tactic(auto, unfolding(crate::specs::Arith::arith_result))]
 #[inline(always)]
 pub fn obey_plain(nest: &mut Nest, flags: &mut Flags, code: u8) -> Result<(), Nouv>
     requires { IsPlainCode code }
-    ensures { Obeys (arith (Plain code)) nest.old flags.old nest.new flags.new result }
+    ensures { Obeys (arith_result (Plain code)) nest.old flags.old nest.new flags.new result }
 {
     match code {
         0x1f => set_tr(nest, flags),
@@ -61,10 +61,10 @@ pub fn obey_plain(nest: &mut Nest, flags: &mut Flags, code: u8) -> Result<(), No
 ///
 /// # Errors
 /// As those of `obey_arith`.
-#[tactic(auto, unfolding(crate::specs::Arith::arith))]
+#[tactic(auto, unfolding(crate::specs::Arith::arith_result))]
 pub fn obey_shift(nest: &mut Nest, flags: &mut Flags, code: u8, n: i16) -> Result<(), Nouv>
     requires { IsShiftCode code }
-    ensures { Obeys (arith (Shift code n)) nest.old flags.old nest.new flags.new result }
+    ensures { Obeys (arith_result (Shift code n)) nest.old flags.old nest.new flags.new result }
 {
     let overflow = obey_shifts(nest, code, n)?;
     flags.note(overflow);

@@ -1,6 +1,6 @@
 //! The orders that take words as values. Each tells whether it sets V. The short ones are inlined in the loop over the
 //! orders of a program. The long ones are calls, so that no short one saves registers for them.
-#![tactic(auto, unfolding(crate::specs::Rows::plain_row))]
+#![tactic(auto, unfolding(crate::specs::Rows::arith_row))]
 
 ghost use Rattle.std.specs.Prelude.{◌≡◌, ◌≤◌, ◌∷◌, length};
 ghost use Rattle.kdf_word.specs.Doubles.{upper_of, lower_of};

@@ -1,6 +1,6 @@
 //! The orders that move words of the nest and combine their bits. None of them changes a flag. The short ones are
 //! inlined in the loop over the orders of a program, the long ones are calls.
-#![tactic(auto, unfolding(crate::specs::Rows::plain_row))]
+#![tactic(auto, unfolding(crate::specs::Rows::arith_row))]
 
 ghost use Rattle.std.specs.Int.{IsInRange};
 ghost use Rattle.kdf_arith.specs.Arith.{plain};

@@ -4,7 +4,7 @@ use Rattle.std.proofs.Common.{◌≡◌, ℕ, zero, suc, ◌+◌, List, true, re
 use Rattle.std.proofs.lemmas.Grind.{replicate_next}
 use Rattle.kdf_journal.specs.declared.entry.Entry.{Entry}
 use Rattle.kdf_journal.specs.Counts.{calls, clock, moves}
-use Rattle.kdf_journal.specs.Steps.{Step, Obeys, Holds, Waits, Moves, Ends, Sets, Swaps, steps}
+use Rattle.kdf_journal.specs.Steps.{JournalStep, Obeys, Holds, Waits, Moves, Ends, Sets, Swaps, steps}
 use Rattle.kdf_journal.proofs.Added.{calls_by, calls-added, clock_by, clock-added, moves_by, moves-added}
 use Rattle.kdf_transfer.specs.Slots.{Slot}
 use Rattle.kdf_schedule.specs.Calls.{Call, AnOrder}
@@ -19,7 +19,7 @@ use Rattle.kdf_theory.proofs.Course.OneJournal.{true_for_added}
 
 -- ---- what a step that answers an order counts
 
-counted : (s : Step) → call_of s ≡ AnOrder → (calls_by s ≡ 1) × (moves_by s ≡ 0) × ((t : ℕ) → clock_by t s ≡ t)
+counted : (s : JournalStep) → call_of s ≡ AnOrder → (calls_by s ≡ 1) × (moves_by s ≡ 0) × ((t : ℕ) → clock_by t s ≡ t)
 counted (Obeys p note) is = (refl, refl, λ t. refl)
 counted (Holds p by) is = (refl, refl, λ t. refl)
 counted Waits is = (refl, refl, λ t. refl)
@@ -39,7 +39,7 @@ module _ (answers : ℕ → ℕ → Type 0) (slots : List Slot) (J K : List Entr
   order-time = ap clock a.entered ∙ clock-added J a.step ∙ (counted a.step a.call).2 (clock J)
 
   -- one order more
-  pub order-on : (P : List Step) (i : ℕ) → IsLegal slots J → any_live slots J ≡ true → Reaches (lone_dispatched slots) P (replicate i AnOrder) (steps J)
+  pub order-on : (P : List JournalStep) (i : ℕ) → IsLegal slots J → any_live slots J ≡ true → Reaches (lone_dispatched slots) P (replicate i AnOrder) (steps J)
       → Reaches (lone_dispatched slots) P (replicate (i + 1) AnOrder) (steps K)
   order-on P i l live taken =
       subst (λ (cs : List Call). Reaches (lone_dispatched slots) P cs (steps K)) (sym (replicate_next i AnOrder))
@@ -72,7 +72,8 @@ module _ (answers : ℕ → ℕ → Type 0) (slots : List Slot) (J : List Entry)
       let a = on.3 in
       subst (IsTrueFor answers slots) (sym a.entered) (true_for_added answers slots on.0 a.step (legal-on n on.0 l on.1) (truly-on n on.0 l truly on.1) a.truly)
 
-  pub reach-on : (P : List Step) (i n : ℕ) (K : List Entry) → IsLegal slots J → Reaches (lone_dispatched slots) P (replicate i AnOrder) (steps J) → On n K
+  pub reach-on : (P : List JournalStep) (i n : ℕ) (K : List Entry) → IsLegal slots J → Reaches (lone_dispatched slots) P (replicate i AnOrder) (steps J)
+      → On n K
       → Reaches (lone_dispatched slots) P (replicate (i + n) AnOrder) (steps K)
   reach-on P i zero K l taken same =
       let all : i ≡ i + 0 = omega arith in

@@ -9,7 +9,7 @@ use Rattle.kdf_transfer.specs.Slots.{Slot}
 use Rattle.kdf_schedule.specs.declared.event.Event.{Event}
 use Rattle.kdf_schedule.specs.declared.event.Event.TheVariants.{Orders, Move, End, Clock, Swap}
 use Rattle.kdf_schedule.specs.Events.{IsInRange}
-use Rattle.kdf_job.specs.Job.{SlotJob}
+use Rattle.kdf_job.specs.Job.{ShownSlot}
 use Rattle.kdf_job.specs.WellFormed as job
 use Rattle.kdf_theory.specs.Follows.{IsRising}
 use Rattle.kdf_theory.specs.Loading.{HaveImages, loads, slots_of}
@@ -53,7 +53,7 @@ no_pending (suc (suc (suc (suc (suc (suc (suc (suc (suc (suc (suc (suc (suc (suc
 no_pending (suc (suc (suc (suc (suc (suc (suc (suc (suc (suc (suc (suc (suc (suc (suc zero))))))))))))))) = refl
 no_pending (suc (suc (suc (suc (suc (suc (suc (suc (suc (suc (suc (suc (suc (suc (suc (suc d)))))))))))))))) = refl
 
-module _ (answers : ℕ → ℕ → Type 0) (jobs : List SlotJob) (images : List (List ℕ)) (are : job.AreSlots jobs) (have : HaveImages jobs images) where
+module _ (answers : ℕ → ℕ → Type 0) (jobs : List ShownSlot) (images : List (List ℕ)) (are : job.AreSlots jobs) (have : HaveImages jobs images) where
   -- programs that are loaded keep to the empty journal
   pub start-keeps : (J : List Entry) (programs : List (Option Program)) → J ≡ [] → ((p : ℕ) → IsKeptAt (slots_of jobs images) [] p (place_at programs p))
       → length programs ≡ 4 → Keeps answers (slots_of jobs images) J nothing programs

@@ -13,7 +13,7 @@ use Rattle.kdf_processor.specs.Row.{done_by, next_of}
 use Rattle.kdf_processor.specs.State.{State}
 use Rattle.kdf_theory.specs.Legal.{note_of, note_of_outcome}
 use Rattle.kdf_theory.specs.World.{hold_left, hold_of}
-use Rattle.kdf_check.specs.Desk.{entry_after}
+use Rattle.kdf_check.specs.CheckPort.{entry_after}
 use Rattle.kdf_check.specs.Entered.{entered, IsNote}
 
 -- an order that is obeyed, by what it does

@@ -2,7 +2,7 @@
 use Rattle.std.proofs.Common.{◌≡◌, ℕ, ◌<◌, ◌≤◌, List, [], ◌∷◌, Option, None, true, refl, sym, subst, set}
 use Rattle.kdf_journal.specs.declared.entry.Entry.{Entry}
 use Rattle.kdf_journal.specs.Counts.{clock}
-use Rattle.kdf_journal.specs.Steps.{Step, Moves, Ends, Sets, Swaps, added, steps}
+use Rattle.kdf_journal.specs.Steps.{JournalStep, Moves, Ends, Sets, Swaps, added, steps}
 use Rattle.kdf_transfer.specs.Slots.{Slot}
 use Rattle.kdf_schedule.specs.Calls.{Call}
 use Rattle.kdf_course.specs.Follows.{call_of, Reaches}
@@ -16,7 +16,7 @@ use Rattle.kdf_check.proofs.Keeping.{still-keeps}
 use Rattle.kdf_check.proofs.Kept.{ended_keeps, moved_keeps, still_keeps}
 
 -- an event that is entered answers its call
-pub event-on : (slots : List Slot) (J K : List Entry) (c : Call) (s : Step) → IsLegal slots J → any_live slots J ≡ true → call_of s ≡ c → K ≡ added J s
+pub event-on : (slots : List Slot) (J K : List Entry) (c : Call) (s : JournalStep) → IsLegal slots J → any_live slots J ≡ true → call_of s ≡ c → K ≡ added J s
     → Reaches (lone_dispatched slots) (steps J) (c ∷ []) (steps K)
 event-on slots J K c s l live is k = reach-added (lone_dispatched slots) (steps J) J K [] c s l.in_form (reach-nil (lone_dispatched slots) (steps J)) live is k
 

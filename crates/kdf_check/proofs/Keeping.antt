@@ -7,7 +7,7 @@ use Rattle.std.proofs.Math.ListN.{get_or-eq_default}
 use Rattle.std.proofs.lemmas.List.{get_or_default, get_or-set_same, get_or-set_other, length-set}
 use Rattle.kdf_journal.specs.declared.entry.Entry.{Entry}
 use Rattle.kdf_journal.specs.Counts.{Hold, answers, calls, last_hold, over, ran}
-use Rattle.kdf_journal.specs.Steps.{Step, added}
+use Rattle.kdf_journal.specs.Steps.{JournalStep, added}
 use Rattle.kdf_journal.proofs.Added.{answers_by, hold_by, last_hold-added, ran_by}
 use Rattle.kdf_journal.proofs.Bounds.{ran-le-calls}
 use Rattle.kdf_transfer.specs.Slots.{Slot}
@@ -17,7 +17,7 @@ use Rattle.kdf_processor.specs.declared.registers.Life.TheVariants as life
 use Rattle.kdf_processor.specs.Lone.{is_live}
 use Rattle.kdf_processor.specs.State.{State}
 use Rattle.kdf_processor.proofs.RowFacts.{counts_lone}
-use Rattle.kdf_alone.specs.Bench.{state_with}
+use Rattle.kdf_alone.specs.LonePort.{state_with}
 use Rattle.kdf_theory.specs.Legal.{Meets}
 use Rattle.kdf_theory.specs.Next.{next}
 use Rattle.kdf_theory.specs.Served.{is_true_for}
@@ -153,7 +153,7 @@ module _ (answers : ℕ → ℕ → Type 0) (slots : List Slot) (J : List Entry)
     }
 
   -- ---- after a step that no program's order makes
-  module _ (s : Step) (table' : List (Option Pending)) (meets : Meets (lone_world slots J) slots J 0 s) (noted : Noted (is_true_for answers slots J) s)
+  module _ (s : JournalStep) (table' : List (Option Pending)) (meets : Meets (lone_world slots J) slots J 0 s) (noted : Noted (is_true_for answers slots J) s)
       (tells : Tells slots (added J s) table')
       (none_ran : (q : ℕ) → ran_by q s ≡ 0) (none_told : (q : ℕ) → answers_by q s ≡ []) (holds : (q : ℕ) (o : Option Hold) → hold_by q o s ≡ o) where
     still-at : (q : ℕ) (o : Option Program) → IsKeptAt slots J q o → IsKeptAt slots (added J s) q o

@@ -8,7 +8,7 @@ use Rattle.kdf_transfer.specs.AtOnce.{has_area}
 use Rattle.kdf_transfer.specs.declared.order.TransferOrder.{TransferOrder}
 use Rattle.kdf_journal.specs.declared.entry.Entry.{Entry}
 use Rattle.kdf_journal.specs.Counts.{Hold, moved_if, pending}
-use Rattle.kdf_journal.specs.Steps.{Note, Step, Obeys, Holds, Moves, Ends, added}
+use Rattle.kdf_journal.specs.Steps.{Note, JournalStep, Obeys, Holds, Moves, Ends, added}
 use Rattle.kdf_journal.proofs.Added.{moved_by, pending_by, pending-added}
 use Rattle.kdf_processor.specs.Effect.{Question, Effect, Failing, Ending, Changing, Fetching, Keeping, Testing, Starting, Asking, Claiming, Returning, Spooling}
 use Rattle.kdf_processor.specs.Needs.{next_effect}
@@ -26,17 +26,18 @@ use Rattle.kdf_theory.proofs.Course.OrdersObeyed.{obeys-flights, obeys-others}
 use Rattle.kdf_theory.proofs.Course.FlightsOnCourse.{flights-quiet, legal-course}
 use Rattle.kdf_check.specs.declared.table.Pending.{Pending}
 use Rattle.kdf_check.specs.Around.{is_among}
-use Rattle.kdf_check.specs.Desk.{groups_in, table_after, IsInTable}
+use Rattle.kdf_check.specs.CheckPort.{groups_in, table_after, IsInTable}
 use Rattle.kdf_check.specs.Tracks.{Tells, TellsAt}
 
 -- a place tells on where the transfer stays and touches what it touched
-keeps-at : (slots : List Slot) (J : List Entry) (s : Step) (x : ℕ) (o : Option Pending) → TellsAt slots J x o → pending_by x (pending x J) s ≡ pending x J
+keeps-at : (slots : List Slot) (J : List Entry) (s : JournalStep) (x : ℕ) (o : Option Pending) → TellsAt slots J x o
+    → pending_by x (pending x J) s ≡ pending x J
     → ((q g : ℕ) → touches (flights_of slots (added J s) q x) g ≡ touches (flights_of slots J q x) g) → TellsAt slots (added J s) x o
 keeps-at slots J s x None none stays touch = pending-added x J s ∙ stays ∙ none
 keeps-at slots J s x (Some t) tells stays touch = (tells.0, pending-added x J s ∙ stays ∙ tells.1, λ g. touch t.p g ∙ tells.2 g)
 
 -- steps that leave all transfers as they are
-pub quiet_keeps : (slots : List Slot) (J : List Entry) (s : Step) (table : List (Option Pending)) → Tells slots J table
+pub quiet_keeps : (slots : List Slot) (J : List Entry) (s : JournalStep) (table : List (Option Pending)) → Tells slots J table
     → ((x : ℕ) → pending_by x (pending x J) s ≡ pending x J) → ((q x g : ℕ) → touches (flights_of slots (added J s) q x) g ≡ touches (flights_of slots J q x) g)
     → Tells slots (added J s) table
 quiet_keeps slots J s table tells stays touch =
@@ -182,7 +183,8 @@ ended_keeps slots J d table are l tells = record {
         (cases_lt x (length table))
 
 -- a step that neither begins, moves nor ends a transfer
-pub still_keeps : (slots : List Slot) (J : List Entry) (s : Step) (table : List (Option Pending)) → AreSlots slots → IsLegal slots J → Tells slots J table
+pub still_keeps : (slots : List Slot) (J : List Entry) (s : JournalStep) (table : List (Option Pending)) → AreSlots slots → IsLegal slots J
+    → Tells slots J table
     → ((x : ℕ) → pending_by x (pending x J) s ≡ pending x J) → ((x : ℕ) → moved_by x (moved_if x J) s ≡ moved_if x J) → Tells slots (added J s) table
 still_keeps slots J s table are l tells stays moves =
     quiet_keeps slots J s table tells stays

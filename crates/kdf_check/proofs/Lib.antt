@@ -1,5 +1,5 @@
 pub mod Judging
-pub mod Desks
+pub mod CheckPorts
 pub mod Quiet
 pub mod Places
 pub mod Comes

@@ -18,7 +18,7 @@ use Rattle.kdf_theory.proofs.Course.LegalFacts.{legal_alive}
 use Rattle.kdf_check.specs.Around.{Around, around_by}
 use Rattle.kdf_check.specs.declared.table.Pending.{Pending}
 use Rattle.kdf_check.specs.declared.program.Program.{Program}
-use Rattle.kdf_check.specs.Desk.{shown_by}
+use Rattle.kdf_check.specs.CheckPort.{shown_by}
 use Rattle.kdf_check.specs.Keeps.{goes, is_on, is_stopped, place_at, IsFollowed, IsKeptAt, Keeps}
 use Rattle.kdf_check.specs.Tracks.{IsAround, Tells}
 use Rattle.kdf_check.proofs.Pendings.{pending-here}

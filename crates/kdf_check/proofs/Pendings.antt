@@ -15,7 +15,7 @@ use Rattle.kdf_transfer.specs.Devices.{is_kind, test_of}
 use Rattle.kdf_transfer.specs.Slots.{Slot}
 use Rattle.kdf_processor.specs.declared.step.Need.{Need}
 use Rattle.kdf_processor.specs.declared.step.Need.TheVariants.{Group, Device, Pool}
-use Rattle.kdf_processor.specs.Claims.{taken}
+use Rattle.kdf_processor.specs.Claims.{taken_device}
 use Rattle.kdf_processor.specs.Effect.{Question, IsBusy, IsOut, Time, FreeOf, OfService}
 use Rattle.kdf_processor.specs.State.{Claims, device_in, word_in}
 use Rattle.kdf_processor.specs.View.{groups_of, is_pending}
@@ -30,7 +30,7 @@ use Rattle.kdf_theory.specs.True.{one_if, truth}
 use Rattle.kdf_theory.proofs.Course.DevicesHeld.{legal_taken}
 use Rattle.kdf_check.specs.Around.{Around, covers, free_in, is_among, is_busy_in, is_free_in, is_of, is_out_in, mine_in}
 use Rattle.kdf_check.specs.declared.table.Pending.{Pending}
-use Rattle.kdf_check.specs.Desk.{answer_in, shown_by, taken_in}
+use Rattle.kdf_check.specs.CheckPort.{answer_in, shown_by, taken_in}
 use Rattle.kdf_check.specs.Tracks.{IsAround, TellsAt}
 use Rattle.kdf_check.specs.Tried.{lone_truth}
 use Rattle.kdf_check.specs.Watching.{view_in}
@@ -124,7 +124,7 @@ module _ (slots : List Slot) (J : List Entry) (p : ℕ) where
       taken-same kind (Some d) some =
           let free : is_pending_after slots J p (Pool kind) ≡ false = ap (λ (o : Option ℕ). not (is_some o)) some in
           let answer : truth (lone_world slots J) J p around.heard (FreeOf kind) ≡ d = ap (λ (o : Option ℕ). unwrap_or o 0) some in
-          ap (taken c kind) (sym answer) ∙ legal_taken slots J are legal truly p around.heard kind live free ∙ answer
+          ap (taken_device c kind) (sym answer) ∙ legal_taken slots J are legal truly p around.heard kind live free ∙ answer
 
       answer-same : (q : Question) → answer_in p around c q ≡ lone_truth slots J around.heard p q
       answer-same (IsBusy d) = ap one_if (busy-same d)
@@ -133,7 +133,7 @@ module _ (slots : List Slot) (J : List Entry) (p : ℕ) where
       answer-same (FreeOf kind) = ap (taken_in c kind) (free-same kind) ∙ taken-same kind (free_after slots J p kind) refl
       answer-same (OfService word) = refl
 
-      -- a desk with the program's lone state shows it in the world of lone runs, where each order is truly answered
+      -- a check port with the program's lone state shows it in the world of lone runs, where each order is truly answered
       pub shown-here : shown_by p around (own slots J p).stock ≡ view_in (lone_world slots J) (lone_truth slots J around.heard p) p
       shown-here =
           ap₂ (λ (f : Need → Bool) (mine : List ℕ). record {

@@ -1,4 +1,4 @@
--- Orders that are tried at a desk one after another, of which the journal tells no more than that they were obeyed.
+-- Orders that are tried at a check port one after another, of which the journal tells no more than that they were obeyed.
 use Rattle.std.proofs.Common.{◌≡◌, ◌+◌, ℕ, suc, List, Option, None, refl, sym, ap, ◌∙◌, subst, arith, true, false}
 use Rattle.kdf_journal.specs.declared.entry.Entry.{Entry}
 use Rattle.kdf_processor.specs.declared.registers.Registers.{Registers}
@@ -9,13 +9,13 @@ use Rattle.kdf_processor.specs.Effect.{Act, Nothing, Writes, Starts, Asks, Acqui
 use Rattle.kdf_processor.specs.Effect.{IsBusy, IsOut, Time, FreeOf, OfService}
 use Rattle.kdf_processor.specs.Row.{at_once}
 use Rattle.kdf_processor.specs.State.{Stock}
-use Rattle.kdf_alone.specs.Bench.{stock_of, CanAsk}
+use Rattle.kdf_alone.specs.LonePort.{stock_of, CanAsk}
 use Rattle.kdf_theory.proofs.GoingOn.{GoesOn, goes_on}
 use Rattle.kdf_check.specs.Around.{Around}
 use Rattle.kdf_check.specs.Batches.{AreQuiet, HasBatch, HasStopped, HasTried, outcome_at}
-use Rattle.kdf_check.specs.declared.desk.Desk.{Desk}
+use Rattle.kdf_check.specs.declared.check_port.CheckPort.{CheckPort}
 use Rattle.kdf_check.specs.declared.table.Pending.{Pending}
-use Rattle.kdf_check.specs.Desk.{SameDesk, SameOrder, around_of, entry_after, shown_by, table_after}
+use Rattle.kdf_check.specs.CheckPort.{SameDesk, SameOrder, around_of, entry_after, shown_by, table_after}
 
 -- an act of which no entry tells begins no transfer, and takes no answer
 untold_table : (p k : ℕ) (act : Act) (table : List (Option Pending)) → entry_after p k act None ≡ None → table_after p act table ≡ table
@@ -41,19 +41,19 @@ untold_asked p k (Releases true d) stock none = cc
 untold_asked p k (Releases false d) stock none = refl
 untold_asked p k (Spools stream first last) stock none = refl
 
--- an order was tried at desk u, and desk w was left
-abbrev pub TriedAt : (u : Desk) → Registers → (w : Desk) → Registers → Step → Type 0
+-- an order was tried at check port u, and check port w was left
+abbrev pub TriedAt : (u : CheckPort) → Registers → (w : CheckPort) → Registers → Step → Type 0
 TriedAt u r w left ended = HasTried u.p (around_of u) r u.bench.now left w.bench.now w.table.now.places ended w.entry
 
--- so it was by what stood around a desk of the same program
-over : (t u w : Desk) (r left : Registers) (ended : Step) → u.p ≡ t.p → around_of u ≡ around_of t → TriedAt u r w left ended
+-- so it was by what stood around a check port of the same program
+over : (t u w : CheckPort) (r left : Registers) (ended : Step) → u.p ≡ t.p → around_of u ≡ around_of t → TriedAt u r w left ended
     → HasTried t.p (around_of t) r u.bench.now left w.bench.now w.table.now.places ended w.entry
 over t u w r left ended p_is around_is tried =
     subst (λ (a : Around). HasTried t.p a r u.bench.now left w.bench.now w.table.now.places ended w.entry) around_is
     (subst (λ (q : ℕ). HasTried q (around_of u) r u.bench.now left w.bench.now w.table.now.places ended w.entry) p_is tried)
 
--- at desk u, which was desk t, the program has obeyed n orders
-pub record IsAt (t u : Desk) (first r : Registers) (n : ℕ) : Type 0 where
+-- at check port u, which was check port t, the program has obeyed n orders
+pub record IsAt (t u : CheckPort) (first r : Registers) (n : ℕ) : Type 0 where
   pub same : SameDesk t u
   pub p_is : u.p ≡ t.p
   pub around_is : around_of u ≡ around_of t
@@ -63,12 +63,12 @@ pub record IsAt (t u : Desk) (first r : Registers) (n : ℕ) : Type 0 where
   pub quiet : u.entry ≡ None
   pub earlier : AreQuiet t.p (around_of t) n first t.bench.now r u.bench.now
 
--- of a desk at which nothing was changed before
-pub unchanged : (u u' w : Desk) (r r' left : Registers) (ended : Step) → r' ≡ r → u' ≡ u → SameOrder u' w → TriedAt u' r' w left ended
+-- of a check port at which nothing was changed before
+pub unchanged : (u u' w : CheckPort) (r r' left : Registers) (ended : Step) → r' ≡ r → u' ≡ u → SameOrder u' w → TriedAt u' r' w left ended
     → SameOrder u w × TriedAt u r w left ended
 unchanged u u' w r r' left ended is is' same tried = rw (sym is, sym is') (same, tried)
 
-module _ (t u w : Desk) (first r left : Registers) (n : ℕ) (at : IsAt t u first r n) (same : SameOrder u w) where
+module _ (t u w : CheckPort) (first r left : Registers) (n : ℕ) (at : IsAt t u first r n) (same : SameOrder u w) where
   -- one more was tried
   pub last_at : (ended : Step) (told : Option Entry) → told ≡ w.entry → TriedAt u r w left ended
       → HasBatch t.p (around_of t) n first t.bench.now left w.bench.now w.table.now.places ended told
@@ -115,9 +115,9 @@ module _ (t u w : Desk) (first r left : Registers) (n : ℕ) (at : IsAt t u firs
     pub next_ran : left.ran ≡ r.ran + 1
     next_ran = gone.ran
 
-    -- so the desk goes on to the next
-    pub next_at : (v : Desk) → v ≡ record w { order = w.order + 1 } → IsAt t v first left (n + 1)
-    next_at v is = subst (λ (d : Desk). IsAt t d first left (n + 1)) (sym is) (record {
+    -- so the check port goes on to the next
+    pub next_at : (v : CheckPort) → v ≡ record w { order = w.order + 1 } → IsAt t v first left (n + 1)
+    next_at v is = subst (λ (d : CheckPort). IsAt t d first left (n + 1)) (sym is) (record {
       same = record { bench = same.same.bench ∙ at.same.bench; table = same.same.table ∙ at.same.table };
       p_is = same.p ∙ at.p_is;
       around_is = around_on;
@@ -129,7 +129,7 @@ module _ (t u w : Desk) (first r left : Registers) (n : ℕ) (at : IsAt t u firs
     })
 
 -- there was no memory for one more
-pub stopped_at : (t u w : Desk) (first r left : Registers) (n : ℕ) → IsAt t u first r n → left ≡ r → stock_of w.bench.now ≡ stock_of u.bench.now
+pub stopped_at : (t u w : CheckPort) (first r left : Registers) (n : ℕ) → IsAt t u first r n → left ≡ r → stock_of w.bench.now ≡ stock_of u.bench.now
     → HasStopped t.p (around_of t) n first t.bench.now left w.bench.now
 stopped_at t u w first r left n at is stock =
     let earlier = subst (λ (x : Registers). AreQuiet t.p (around_of t) n first t.bench.now x u.bench.now) (sym is) at.earlier in

@@ -4,14 +4,15 @@ use Rattle.std.proofs.Common.{is_some, refl, sym, ap, ap₂, ◌∙◌, subst, a
 use Rattle.std.proofs.lemmas.Bool.{and_from}
 use Rattle.std.proofs.lemmas.List.Folds.{list_any_at}
 use Rattle.kdf_journal.specs.declared.entry.Entry.{Entry}
-use Rattle.kdf_journal.specs.Counts.{answers as answers_in, last_hold, over, ran, slot_numbers}
+use Rattle.kdf_journal.specs.Counts.{last_hold, over, ran, slot_numbers}
+use Rattle.kdf_journal.specs.Counts as counts
 use Rattle.kdf_transfer.specs.Slots.{Slot}
 use Rattle.kdf_processor.specs.declared.registers.Registers.{Registers}
-use Rattle.kdf_processor.specs.declared.step.Step.{Step as Ending}
+use Rattle.kdf_processor.specs.declared.step.Step.{Step}
 use Rattle.kdf_processor.specs.declared.step.Step.TheVariants.{Done}
 use Rattle.kdf_processor.proofs.RowFacts.{served_lone}
-use Rattle.kdf_alone.specs.declared.bench.Bench.{Bench}
-use Rattle.kdf_alone.specs.Bench.{state_with}
+use Rattle.kdf_alone.specs.declared.lone_port.LonePort.{LonePort}
+use Rattle.kdf_alone.specs.LonePort.{state_with}
 use Rattle.kdf_theory.specs.Legal.{IsLegal, IsTrue}
 use Rattle.kdf_course.specs.World as course
 use Rattle.kdf_theory.specs.Next.{any_live, next, there_in}
@@ -57,9 +58,10 @@ next_live w slots J p turn =
 -- whether a program is served stays
 served_on : (slots : List Slot) (J K : List Entry) (p : ℕ) → (own slots K p).stock.claims.served ≡ (own slots J p).stock.claims.served
 unfolding own
-served_on slots J K p = served_lone (start slots p) (answers_in p K) (ran p K) ∙ sym (served_lone (start slots p) (answers_in p J) (ran p J))
+served_on slots J K p = served_lone (start slots p) (counts.answers p K) (ran p K) ∙ sym (served_lone (start slots p) (counts.answers p J) (ran p J))
 
-module _ (answers : ℕ → ℕ → Type 0) (slots : List Slot) (J : List Entry) (p : ℕ) (table : List (Option Pending)) (heard : ℕ) (first : Registers) (bench : Bench)
+module _ (answers : ℕ → ℕ → Type 0) (slots : List Slot) (J : List Entry) (p : ℕ) (table : List (Option Pending)) (heard : ℕ) (first : Registers)
+    (bench : LonePort)
     (posed : IsPosed slots J p (around_by table J heard) first bench) (turn : next (lone_world slots J) slots J ≡ Some p) where
   abbrev around : Around
   around = around_by table J heard
@@ -72,7 +74,7 @@ module _ (answers : ℕ → ℕ → Type 0) (slots : List Slot) (J : List Entry)
   Hears n = first_need (lone_world slots (K n)) p ≡ None → IsHeard answers (own slots (K n) p) heard
 
   -- after n such orders it is next still
-  record IsOn (n : ℕ) (r : Registers) (b : Bench) : Type 0 where
+  record IsOn (n : ℕ) (r : Registers) (b : LonePort) : Type 0 where
     legal : IsLegal slots (K n)
     truly : IsTrue slots (K n)
     tells : Tells slots (K n) table
@@ -82,7 +84,7 @@ module _ (answers : ℕ → ℕ → Type 0) (slots : List Slot) (J : List Entry)
     other_holds : (q : ℕ) → p ≢ q → last_hold q (K n) ≡ last_hold q J
     goes_on : GoesOnFor answers slots n J (K n)
 
-  on_first : (r : Registers) (b : Bench) → r ≡ first → b ≡ bench → IsOn 0 r b
+  on_first : (r : Registers) (b : LonePort) → r ≡ first → b ≡ bench → IsOn 0 r b
   on_first r b is is' = record {
     legal = posed.legal;
     truly = posed.truly;
@@ -94,7 +96,7 @@ module _ (answers : ℕ → ℕ → Type 0) (slots : List Slot) (J : List Entry)
     goes_on = refl;
   }
 
-  module _ (n : ℕ) (r : Registers) (b : Bench) (on : IsOn n r b) where
+  module _ (n : ℕ) (r : Registers) (b : LonePort) (on : IsOn n r b) where
     posed_on : IsPosed slots (K n) p around r b
     posed_on = record {
       are = posed.are;
@@ -106,7 +108,7 @@ module _ (answers : ℕ → ℕ → Type 0) (slots : List Slot) (J : List Entry)
     }
 
     -- one more is its turn
-    turn_on : (x : Program) (left : List (Option Pending)) (ended : Ending) (told : Option Entry) (L : List Entry) → Hears n
+    turn_on : (x : Program) (left : List (Option Pending)) (ended : Step) (told : Option Entry) (L : List Entry) → Hears n
         → HasTried p around r b x.registers x.bench left ended told → x.p ≡ p → x.hold ≡ hold_left ended → L ≡ entered (K n) p ended told
         → IsTurned answers slots (K n) p x left L
     turn_on x left ended told L is_heard tried p_is hold_is entries =
@@ -117,7 +119,7 @@ module _ (answers : ℕ → ℕ → Type 0) (slots : List Slot) (J : List Entry)
     live_on = next_live (lone_world slots (K n)) slots (K n) p on.next_is
 
     -- and where it is quiet, it is next still
-    more : (left : Registers) (k : Bench) → Hears n → HasTried p around r b left k table Done None → IsOn (suc n) left k
+    more : (left : Registers) (k : LonePort) → Hears n → HasTried p around r b left k table Done None → IsOn (suc n) left k
     more left k is_heard tried =
         let x : Program = record { p = p; registers = left; bench = k; hold = None } in
         let t = turn_on x table Done None (K (suc n)) is_heard tried refl refl refl in
@@ -134,7 +136,7 @@ module _ (answers : ℕ → ℕ → Type 0) (slots : List Slot) (J : List Entry)
         }
 
     -- the turn after them as a whole
-    all_turned : (x : Program) (left : List (Option Pending)) (ended : Ending) (told : Option Entry) (L : List Entry) → Hears n
+    all_turned : (x : Program) (left : List (Option Pending)) (ended : Step) (told : Option Entry) (L : List Entry) → Hears n
         → HasTried p around r b x.registers x.bench left ended told → x.p ≡ p → x.hold ≡ hold_left ended → L ≡ entered (K n) p ended told
         → AreTurned answers slots (suc n) J p x left L
     all_turned x left ended told L is_heard tried p_is hold_is entries =
@@ -154,12 +156,12 @@ module _ (answers : ℕ → ℕ → Type 0) (slots : List Slot) (J : List Entry)
     heard_none : (n : ℕ) → Hears n
     heard_none n free = none_heard answers heard (own slots (K n) p) (served_on slots J (K n) p ∙ unserved)
 
-    on_for : (n : ℕ) (r : Registers) (b : Bench) → AreQuiet p around n first bench r b → IsOn n r b
+    on_for : (n : ℕ) (r : Registers) (b : LonePort) → AreQuiet p around n first bench r b → IsOn n r b
     on_for zero r b same = on_first r b same.0 same.1
     on_for (suc n) r b quiet = more n quiet.0 quiet.1 (on_for n quiet.0 quiet.1 quiet.2) r b (heard_none n) quiet.3
 
   -- one that is served hears the service before each order
-  pub batch_turned : (n : ℕ) (x : Program) (left : List (Option Pending)) (ended : Ending) (told : Option Entry) (L : List Entry) → Hears 0 → (served : Bool)
+  pub batch_turned : (n : ℕ) (x : Program) (left : List (Option Pending)) (ended : Step) (told : Option Entry) (L : List Entry) → Hears 0 → (served : Bool)
       → (own slots J p).stock.claims.served ≡ served → (served ≡ true → n ≡ 0)
       → HasBatch p around n first bench x.registers x.bench left ended told → x.p ≡ p → x.hold ≡ hold_left ended → L ≡ entered (K n) p ended told
       → AreTurned answers slots (n + 1) J p x left L

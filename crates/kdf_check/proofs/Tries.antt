@@ -13,8 +13,8 @@ use Rattle.kdf_processor.specs.Row.{at_once}
 use Rattle.kdf_processor.specs.State.{State, Stock}
 use Rattle.kdf_processor.specs.View.{View, by_itself}
 use Rattle.kdf_processor.proofs.Words.{done_word}
-use Rattle.kdf_alone.specs.declared.bench.Bench.{Bench}
-use Rattle.kdf_alone.specs.Bench.{stock_of}
+use Rattle.kdf_alone.specs.declared.lone_port.LonePort.{LonePort}
+use Rattle.kdf_alone.specs.LonePort.{stock_of}
 use Rattle.kdf_theory.specs.Asked.{HasAsked, IsHeard}
 use Rattle.kdf_theory.specs.ByJournal.{lone_world, own}
 use Rattle.kdf_theory.specs.World.{first_need}
@@ -22,13 +22,13 @@ use Rattle.kdf_theory.proofs.Course.HeardWords.{heard_so, heard_then}
 use Rattle.kdf_check.specs.Around.{Around, around_by}
 use Rattle.kdf_check.specs.declared.table.Pending.{Pending}
 use Rattle.kdf_check.specs.Batches.{HasBatch, HasTried}
-use Rattle.kdf_check.specs.Desk.{IsInTable, entry_after, shown_by, table_after}
+use Rattle.kdf_check.specs.CheckPort.{IsInTable, entry_after, shown_by, table_after}
 use Rattle.kdf_check.specs.Tried.{IsPosed, IsTried, lone_truth, outcome_by, outcome_of}
 use Rattle.kdf_check.proofs.Comes.{tried_lem}
 use Rattle.kdf_check.proofs.Pendings.{shown-here}
 
 -- a program stays posed, whatever is heard of the service
-pub posed_with : (slots : List Slot) (J : List Entry) (p : ℕ) (table : List (Option Pending)) (r : Registers) (bench : Bench)
+pub posed_with : (slots : List Slot) (J : List Entry) (p : ℕ) (table : List (Option Pending)) (r : Registers) (bench : LonePort)
     → IsPosed slots J p (around_by table J 0) r bench
     → (heard : ℕ) → IsPosed slots J p (around_by table J heard) r bench
 posed_with slots J p table r bench posed heard =
@@ -41,7 +41,7 @@ posed_with slots J p table r bench posed heard =
       own_is = posed.own_is;
     }
 
-module _ (slots : List Slot) (J : List Entry) (p : ℕ) (around : Around) (r : Registers) (bench : Bench) (posed : IsPosed slots J p around r bench) where
+module _ (slots : List Slot) (J : List Entry) (p : ℕ) (around : Around) (r : Registers) (bench : LonePort) (posed : IsPosed slots J p around r bench) where
   -- what the order of a posed program comes to
   comes_so : outcome (shown_by p around (stock_of bench)) r ≡ outcome_of slots J around.heard p
   comes_so =
@@ -64,7 +64,7 @@ module _ (slots : List Slot) (J : List Entry) (p : ℕ) (around : Around) (r : R
       (heard_so answers (act_word (outcome (shown_by p around (stock_of bench)) r).act) heard has)
 
 -- what was heard of the service where nothing else was heard yet
-pub heard_with : (slots : List Slot) (J : List Entry) (p : ℕ) (table : List (Option Pending)) (r : Registers) (bench : Bench)
+pub heard_with : (slots : List Slot) (J : List Entry) (p : ℕ) (table : List (Option Pending)) (r : Registers) (bench : LonePort)
     → IsPosed slots J p (around_by table J 0) r bench
     → (answers : ℕ → ℕ → Type 0) (heard : Option ℕ) (h d : ℕ) → h ≡ unwrap_or heard d → d ≡ 0
     → HasAsked answers (act_word (outcome (shown_by p (around_by table J 0) (stock_of bench)) r).act) heard
@@ -74,7 +74,7 @@ heard_with slots J p table r bench posed answers heard h d is none has free =
     (heard_at slots J p (around_by table J 0) r bench posed answers heard has free)
 
 -- the next order of a posed program, as it was tried, came out by its lone state
-pub tried_so : (slots : List Slot) (J : List Entry) (p : ℕ) (around : Around) (r left : Registers) (b bench : Bench)
+pub tried_so : (slots : List Slot) (J : List Entry) (p : ℕ) (around : Around) (r left : Registers) (b bench : LonePort)
     (table : List (Option Pending)) (ended : Step) (told : Option Entry)
     → IsPosed slots J p around r b → HasTried p around r b left bench table ended told
     → IsTried slots J p around (outcome_of slots J around.heard p) ended left bench table told
@@ -98,11 +98,11 @@ tried_so slots J p around r left b bench table ended told posed tried =
     act : (outcome (shown_by p around (stock_of b)) r).act ≡ (outcome_of slots J around.heard p).act
     act = ap (λ (o : Outcome). o.act) here
 
--- orders that were tried over a bench and a table that were looked at
-pub batch_over : (p : ℕ) (J : List Entry) (heard quiet : ℕ) (r left : Registers) (b mid bench : Bench) (places between table : List (Option Pending))
+-- orders that were tried over a lone port and a table that were looked at
+pub batch_over : (p : ℕ) (J : List Entry) (heard quiet : ℕ) (r left : Registers) (b mid bench : LonePort) (places between table : List (Option Pending))
     (ended : Step) (told : Option Entry) → mid ≡ b → between ≡ places
     → HasBatch p (around_by between J heard) quiet r mid left bench table ended told
     → HasBatch p (around_by places J heard) quiet r b left bench table ended told
 batch_over p J heard quiet r left b mid bench places between table ended told bench_is table_is batch =
-    subst (λ (k : Bench). HasBatch p (around_by places J heard) quiet r k left bench table ended told) bench_is
+    subst (λ (k : LonePort). HasBatch p (around_by places J heard) quiet r k left bench table ended told) bench_is
     (subst (λ (t : List (Option Pending)). HasBatch p (around_by t J heard) quiet r mid left bench table ended told) table_is batch)

@@ -4,7 +4,7 @@ use Rattle.std.specs.Option.{option_map}
 use Rattle.std.proofs.lemmas.Bool.{eq-eqb, ne_eqb}
 use Rattle.kdf_journal.specs.declared.entry.Entry.{Entry}
 use Rattle.kdf_journal.specs.Counts.{Hold, last_hold}
-use Rattle.kdf_journal.specs.Steps.{Note, Step, Obeys, Holds, added}
+use Rattle.kdf_journal.specs.Steps.{Note, JournalStep, Obeys, Holds, added}
 use Rattle.kdf_journal.proofs.Added.{last_hold-added}
 use Rattle.kdf_transfer.specs.Slots.{Slot}
 use Rattle.kdf_schedule.specs.Calls.{AnOrder}
@@ -12,10 +12,10 @@ use Rattle.kdf_course.specs.Follows.{call_of}
 use Rattle.kdf_course.specs.Legal.{Noted}
 use Rattle.kdf_processor.specs.declared.registers.Registers.{Registers}
 use Rattle.kdf_processor.specs.declared.step.Need.{Need}
-use Rattle.kdf_processor.specs.declared.step.Step.{Step as Ending}
+use Rattle.kdf_processor.specs.declared.step.Step.{Step}
 use Rattle.kdf_processor.specs.State.{State}
-use Rattle.kdf_alone.specs.declared.bench.Bench.{Bench}
-use Rattle.kdf_alone.specs.Bench.{state_with}
+use Rattle.kdf_alone.specs.declared.lone_port.LonePort.{LonePort}
+use Rattle.kdf_alone.specs.LonePort.{state_with}
 use Rattle.kdf_theory.specs.Asked.{IsHeard}
 use Rattle.kdf_theory.specs.Legal.{note_of, IsLegal, Meets}
 use Rattle.kdf_theory.specs.Next.{next}
@@ -50,7 +50,7 @@ pub record IsTurned (answers : ℕ → ℕ → Type 0) (slots : List Slot) (J : 
   pub tells : Tells slots K table
 
 -- what a turn leaves: the program's lone state by the journal with its step, the others', what holds each, and the table
-record IsTurn (slots : List Slot) (J : List Entry) (p : ℕ) (ending : Ending) (registers : Registers) (bench : Bench) (table : List (Option Pending))
+record IsTurn (slots : List Slot) (J : List Entry) (p : ℕ) (ending : Step) (registers : Registers) (bench : LonePort) (table : List (Option Pending))
     (entry : Option Entry) (K : List Entry) : Type 0 where
   pub state : state_with registers bench ≡ own slots K p
   pub others : (q : ℕ) → p ≢ q → own slots K q ≡ own slots J q
@@ -59,7 +59,7 @@ record IsTurn (slots : List Slot) (J : List Entry) (p : ℕ) (ending : Ending) (
   pub tells : Tells slots K table
   pub entered_is : entered J p ending entry ≡ K
 
-module _ (slots : List Slot) (J : List Entry) (p : ℕ) (around : Around) (ending : Ending)
+module _ (slots : List Slot) (J : List Entry) (p : ℕ) (around : Around) (ending : Step)
     (are : AreSlots slots) (l : IsLegal slots J) (turn_is : next (lone_world slots J) slots J ≡ Some p) (tells : Tells slots J around.table) where
   abbrev s : State
   s = own slots J p
@@ -103,7 +103,7 @@ module _ (slots : List Slot) (J : List Entry) (p : ℕ) (around : Around) (endin
             ∙ ap (option_map need_of) (sym (last_hold-added p J (Holds p by) ∙ hold_here (Some by)));
         other_holds = λ q ne. last_hold-added q J (Holds p by) ∙ hold_there q (Some by) ne;
         tells = subst (Tells slots (added J (Holds p by))) (sym t.table_is) (held_keeps slots J p by around.table are l tells);
-        entered_is = ap (λ (e : Ending). entered J p e entry) t.ending_is ∙ held-entered J p need entry;
+        entered_is = ap (λ (e : Step). entered J p e entry) t.ending_is ∙ held-entered J p need entry;
       }
 
   turn_meets : Meets (lone_world slots J) slots J heard (step_of slots J heard p)
@@ -149,7 +149,7 @@ module _ (slots : List Slot) (J : List Entry) (p : ℕ) (around : Around) (endin
     tells = left.tells;
   })
     where
-      s' : Step
+      s' : JournalStep
       s' = step_of slots J heard p
 
       left : IsTurn slots J p ending x.registers x.bench table entry (added J s')

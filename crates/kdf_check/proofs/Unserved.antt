@@ -9,7 +9,8 @@ use Rattle.kdf_course.proofs.Steps.{each-noted-within}
 use Rattle.kdf_processor.specs.Ahead.{word_asked}
 use Rattle.kdf_processor.specs.Effect.{Effect, Asking, IsBusy, IsOut, Time, FreeOf, OfService}
 use Rattle.kdf_processor.specs.Needs.{next_effect}
-use Rattle.kdf_text.specs.Lines.{is_text, line, lines as lines_in}
+use Rattle.kdf_text.specs.Lines.{is_text, line}
+use Rattle.kdf_text.specs.Lines as in_text
 use Rattle.kdf_theory.specs.Legal.{IsAnswer}
 use Rattle.kdf_theory.specs.Served.{is_served, is_true_for, IsJournalFor}
 use Rattle.kdf_theory.specs.Slots.{NoneServed}
@@ -75,4 +76,4 @@ module _ (answers more : ℕ → ℕ → Type 0) (slots : List Slot) (none : Non
   judged-same false lines v is = is
 
   pub check-same : (bytes : List ℕ) (v : Verdict) → IsCheck answers slots events bytes v → IsCheck more slots events bytes v
-  check-same bytes v is = judged-same (is_text head_line (line (lines_in bytes) 1)) (told_lines (lines_in bytes)) v is
+  check-same bytes v is = judged-same (is_text head_line (line (in_text.lines bytes) 1)) (told_lines (in_text.lines bytes)) v is

@@ -2,7 +2,7 @@
 use Rattle.std.specs.Prelude.{◌≡◌, None}
 use Rattle.kdf_transfer.specs.Slots.{Slot}
 use Rattle.kdf_processor.specs.State.{begin}
-use Rattle.kdf_alone.specs.Bench.{state_with}
+use Rattle.kdf_alone.specs.LonePort.{state_with}
 use Rattle.kdf_check.specs.declared.program.Program.{Program}
 
 -- it is that of the slot, and nothing has held it

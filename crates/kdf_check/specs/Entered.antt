@@ -4,8 +4,8 @@ use Rattle.kdf_journal.specs.declared.entry.Entry.{Entry}
 use Rattle.kdf_journal.specs.declared.entry.Entry.TheVariants.{Ran, Fail, Ended}
 use Rattle.kdf_journal.specs.Counts.{calls_in, moves_in}
 use Rattle.kdf_journal.specs.Joined.{pushed}
-use Rattle.kdf_journal.specs.Steps.{held}
-use Rattle.kdf_processor.specs.declared.step.Step.{Step as Ending}
+use Rattle.kdf_journal.specs.Steps.{hold_entry}
+use Rattle.kdf_processor.specs.declared.step.Step.{Step}
 use Rattle.kdf_processor.specs.declared.step.Step.TheVariants as ending
 use Rattle.kdf_theory.specs.World.{hold_of}
 
@@ -15,8 +15,8 @@ with_entry J None = J
 with_entry J (Some entry) = pushed J entry
 
 -- the turn of program p ended so, and the entry tells of its order
-abbrev pub entered : List Entry → ℕ → Ending → Option Entry → List Entry
-entered J p (ending.Held need) entry = pushed J (held p (hold_of need))
+abbrev pub entered : List Entry → ℕ → Step → Option Entry → List Entry
+entered J p (ending.Held need) entry = pushed J (hold_entry p (hold_of need))
 entered J p (ending.Fails kind) entry = pushed (pushed J (Ran p 1)) (Fail p kind)
 entered J p ending.Ends entry = pushed (pushed J (Ran p 1)) (Ended p)
 entered J p ending.Done entry = with_entry (pushed J (Ran p 1)) entry

@@ -4,7 +4,7 @@ use Rattle.std.specs.Prelude.{◌≡◌, ℕ, zero, suc, ◌&&◌, not, Bool, tr
 use Rattle.std.specs.Option.{option_map}
 use Rattle.kdf_journal.specs.declared.entry.Entry.{Entry}
 use Rattle.kdf_journal.specs.Counts.{last_hold}
-use Rattle.kdf_journal.specs.Steps.{Step, added}
+use Rattle.kdf_journal.specs.Steps.{JournalStep, added}
 use Rattle.kdf_transfer.specs.Slots.{Slot}
 use Rattle.kdf_schedule.specs.Calls.{Call, AnOrder}
 use Rattle.kdf_course.specs.Follows.{call_of}
@@ -12,7 +12,7 @@ use Rattle.kdf_course.specs.Legal.{Noted}
 use Rattle.kdf_processor.specs.declared.step.Need.{Need}
 use Rattle.kdf_processor.specs.Lone.{is_live}
 use Rattle.kdf_processor.specs.View.{is_pending}
-use Rattle.kdf_alone.specs.Bench.{state_with, stock_of}
+use Rattle.kdf_alone.specs.LonePort.{state_with, stock_of}
 use Rattle.kdf_theory.specs.Legal.{IsLegal, Meets}
 use Rattle.kdf_theory.specs.Next.{any_live}
 use Rattle.kdf_theory.specs.Served.{is_true_for, IsTrueFor}
@@ -22,7 +22,7 @@ use Rattle.kdf_theory.specs.World.{need_of}
 use Rattle.kdf_check.specs.Around.{Around}
 use Rattle.kdf_check.specs.declared.table.Pending.{Pending}
 use Rattle.kdf_check.specs.declared.program.Program.{Program}
-use Rattle.kdf_check.specs.Desk.{shown_by}
+use Rattle.kdf_check.specs.CheckPort.{shown_by}
 use Rattle.kdf_check.specs.Tracks.{Tells}
 
 -- ---- which program goes on
@@ -73,7 +73,7 @@ pub record Keeps (answers : ℕ → ℕ → Type 0) (slots : List Slot) (J : Lis
 
 -- the journal K has one step more than J, which answers the call as the rules have it, and is true for the service
 pub record GoesOn (answers : ℕ → ℕ → Type 0) (slots : List Slot) (J : List Entry) (c : Call) (K : List Entry) : Type 0 where
-  pub step : Step
+  pub step : JournalStep
   pub call : call_of step ≡ c
   pub heard : ℕ
   pub meets : Meets (lone_world slots J) slots J heard step

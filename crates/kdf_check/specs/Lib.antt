@@ -2,7 +2,7 @@ pub mod Differs
 pub mod Verdict
 pub mod Watching
 pub mod Around
-pub mod Desk
+pub mod CheckPort
 pub mod Batches
 pub mod Tracks
 pub mod Tried

@@ -2,16 +2,16 @@
 use Rattle.std.specs.Prelude.{◌≡◌, ◌+◌, ℕ, List, Option, Some, None, not, true}
 use Rattle.kdf_journal.specs.declared.entry.Entry.{Entry}
 use Rattle.kdf_journal.specs.Counts.{over}
-use Rattle.kdf_journal.specs.Steps.{Step, Obeys, Holds}
+use Rattle.kdf_journal.specs.Steps.{JournalStep, Obeys, Holds}
 use Rattle.kdf_transfer.specs.Slots.{Slot}
 use Rattle.kdf_processor.specs.declared.registers.Registers.{Registers}
 use Rattle.kdf_processor.specs.declared.step.Need.{Need}
-use Rattle.kdf_processor.specs.declared.step.Step.{Step as Ending}
+use Rattle.kdf_processor.specs.declared.step.Step.{Step}
 use Rattle.kdf_processor.specs.Effect.{Question}
 use Rattle.kdf_processor.specs.Outcome.{Outcome, held_or}
 use Rattle.kdf_processor.specs.Row.{next_of, taken}
-use Rattle.kdf_alone.specs.declared.bench.Bench.{Bench}
-use Rattle.kdf_alone.specs.Bench.{state_with}
+use Rattle.kdf_alone.specs.declared.lone_port.LonePort.{LonePort}
+use Rattle.kdf_alone.specs.LonePort.{state_with}
 use Rattle.kdf_theory.specs.Legal.{note_of, IsLegal, IsTrue}
 use Rattle.kdf_theory.specs.Slots.{AreSlots}
 use Rattle.kdf_theory.specs.ByJournal.{lone_world, own}
@@ -19,7 +19,7 @@ use Rattle.kdf_theory.specs.True.{truth}
 use Rattle.kdf_theory.specs.World.{first_need, hold_of}
 use Rattle.kdf_check.specs.Around.{Around}
 use Rattle.kdf_check.specs.declared.table.Pending.{Pending}
-use Rattle.kdf_check.specs.Desk.{entry_after, IsInTable, table_after}
+use Rattle.kdf_check.specs.CheckPort.{entry_after, IsInTable, table_after}
 use Rattle.kdf_check.specs.Tracks.{IsAround}
 
 -- what program p is truly answered, where the service is heard to answer so
@@ -35,16 +35,16 @@ abbrev pub outcome_of : List Slot → List Entry → ℕ → ℕ → Outcome
 outcome_of slots J heard p = outcome_by slots J heard p (first_need (lone_world slots J) p)
 
 -- the step that it makes in its turn: it is held, or it obeys
-abbrev pub step_by : List Slot → List Entry → ℕ → ℕ → Option Need → Step
+abbrev pub step_by : List Slot → List Entry → ℕ → ℕ → Option Need → JournalStep
 step_by slots J heard p None = Obeys p (note_of (own slots J p) (lone_truth slots J heard p))
 step_by slots J heard p (Some need) = Holds p (hold_of need)
 
-abbrev pub step_of : List Slot → List Entry → ℕ → ℕ → Step
+abbrev pub step_of : List Slot → List Entry → ℕ → ℕ → JournalStep
 step_of slots J heard p = step_by slots J heard p (first_need (lone_world slots J) p)
 
--- program p is live, it has its lone state over its bench, and what stands around it is as the journal tells
+-- program p is live, it has its lone state over its lone port, and what stands around it is as the journal tells
 pub record IsPosed (slots : List Slot) (J : List Entry) (p : ℕ) (around : Around) (registers : Registers)
-    (bench : Bench) : Type 0 where
+    (bench : LonePort) : Type 0 where
   pub are : AreSlots slots
   pub legal : IsLegal slots J
   pub truly : IsTrue slots J
@@ -53,8 +53,8 @@ pub record IsPosed (slots : List Slot) (J : List Entry) (p : ℕ) (around : Arou
   pub own_is : state_with registers bench ≡ own slots J p
 
 -- its next order was tried there, and came out so: this is what it has, what is pending, and what the journal tells of the order
-pub record IsTried (slots : List Slot) (J : List Entry) (p : ℕ) (around : Around) (o : Outcome) (ending : Ending)
-    (registers : Registers) (bench : Bench) (table : List (Option Pending)) (entry : Option Entry) : Type 0 where
+pub record IsTried (slots : List Slot) (J : List Entry) (p : ℕ) (around : Around) (o : Outcome) (ending : Step)
+    (registers : Registers) (bench : LonePort) (table : List (Option Pending)) (entry : Option Entry) : Type 0 where
   pub ending_is : ending ≡ o.step
   pub state : state_with registers bench ≡ taken o (own slots J p)
   pub table_is : table ≡ table_after p o.act around.table

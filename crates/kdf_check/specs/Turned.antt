@@ -4,7 +4,7 @@ use Rattle.std.specs.Option.{option_map}
 use Rattle.kdf_journal.specs.declared.entry.Entry.{Entry}
 use Rattle.kdf_journal.specs.Counts.{last_hold}
 use Rattle.kdf_transfer.specs.Slots.{Slot}
-use Rattle.kdf_alone.specs.Bench.{state_with}
+use Rattle.kdf_alone.specs.LonePort.{state_with}
 use Rattle.kdf_theory.specs.ByJournal.{own}
 use Rattle.kdf_theory.specs.World.{need_of}
 use Rattle.kdf_check.specs.declared.table.Pending.{Pending}

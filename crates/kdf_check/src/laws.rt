@@ -18,9 +18,9 @@ ghost use Rattle.kdf_theory.specs.ByJournal.{lone_world, own};
 ghost use Rattle.kdf_theory.specs.World.{World, first_need};
 ghost use Rattle.kdf_check.specs.Around.{Around};
 ghost use Rattle.kdf_check.specs.declared.table.Pending.{Pending};
-ghost use Rattle.kdf_check.specs.Desk.{shown_by, table_after, IsInTable};
+ghost use Rattle.kdf_check.specs.CheckPort.{shown_by, table_after, IsInTable};
 ghost use Rattle.kdf_check.specs.Differs.{IsDifference};
-ghost use Rattle.kdf_check.specs.declared.verdict.Verdict.{Verdict as Judged};
+ghost use Rattle.kdf_check.specs.declared.verdict.Verdict.{Verdict};
 ghost use Rattle.kdf_check.specs.Tracks.{IsAround, Tells};
 ghost use Rattle.kdf_check.specs.Tried.{lone_truth};
 ghost use Rattle.kdf_check.specs.Verdict.{told, IsVerdict};
@@ -40,7 +40,7 @@ pub fn first_difference<F: Fn(u64) -> u64>()
 /// There is one verdict.
 pub fn one_verdict<F: Fn(u64) -> u64>()
     ensures { (rule : F) (slots : List Slot) (events : List Event) (lines : List (Option Entry))
-        (v w : Judged) → IsVerdict (F.post rule) slots events lines v
+        (v w : Verdict) → IsVerdict (F.post rule) slots events lines v
         → IsVerdict (F.post rule) slots events lines w → v ≡ w }
 {}
 

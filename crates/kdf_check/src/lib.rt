@@ -3,8 +3,8 @@
 //! and no ring.
 #![tactic(auto)]
 
+mod check_port;
 mod checker;
-mod desk;
 mod entering;
 pub mod laws;
 mod load;

@@ -4,7 +4,7 @@ ghost use Rattle.kdf_job.specs.Shows.{shown_slot};
 ghost use Rattle.kdf_job.specs.WellFormed.{AreSlots};
 ghost use Rattle.kdf_place.specs.declared.image.Image.{Image};
 ghost use Rattle.kdf_alone.specs.Program.{IsApart};
-ghost use Rattle.kdf_theory.specs.Loading.{HaveImages, load_of, slot_of, slots_of};
+ghost use Rattle.kdf_theory.specs.Loading.{HaveImages, load_of, loaded_slot, slots_of};
 ghost use Rattle.kdf_check.specs.Begun.{IsBegun};
 ghost use Rattle.kdf_check.specs.Keeps.{place_at, IsKeptAt};
 
@@ -19,7 +19,7 @@ use std::alloc::{AllocError, Global};
 fn first(alloc: Global, slot: &SlotJob, image: &Image) -> Result<Program, AllocError>
     requires fits { length image.now.words.items ≤ slot.now.size }
     requires apart { IsApart (shown_slot slot.now) }
-    ensures { IfOk result (IsBegun (slot_of (load_of (shown_slot slot.now) image.now.words.items))) }
+    ensures { IfOk result (IsBegun (loaded_slot (load_of (shown_slot slot.now) image.now.words.items))) }
 {
     let bench = load_bench(alloc, slot, image)?;
     Ok(Program {

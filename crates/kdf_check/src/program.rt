@@ -1,6 +1,6 @@
 //! A program that is followed.
 
-use kdf_alone::Bench;
+use kdf_alone::LonePort;
 use kdf_processor::{Need, Registers};
 
 /// A program that is followed by itself.
@@ -8,7 +8,7 @@ use kdf_processor::{Need, Registers};
 pub struct Program {
     pub p: u8,
     pub registers: Registers,
-    pub bench: Bench,
+    pub bench: LonePort,
     /// What held it, where it was held when it was last its turn.
     pub hold: Option<Need>,
 }

@@ -1,14 +1,14 @@
-//! Trying orders at a desk.
+//! Trying orders at a check port.
 ghost use Rattle.std.specs.Prelude.{◌≡◌, ◌+◌, ◌<◌, ◌≤◌, None, IfNone, IfOk, IfSome, OnErr};
 ghost use Rattle.kdf_processor.specs.Buffered.{Agrees};
-ghost use Rattle.kdf_alone.specs.Bench.{stock_of, CanAsk};
+ghost use Rattle.kdf_alone.specs.LonePort.{stock_of, CanAsk};
 ghost use Rattle.kdf_check.specs.Around.{around_by};
 ghost use Rattle.kdf_check.specs.Batches.{HasBatch, HasStopped, HasTried};
-ghost use Rattle.kdf_check.specs.Desk.{around_of, shown, SameDesk, SameOrder};
+ghost use Rattle.kdf_check.specs.CheckPort.{around_of, shown, SameDesk, SameOrder};
 
-use crate::desk::Desk;
+use crate::check_port::CheckPort;
 use crate::table::Table;
-use kdf_alone::Bench;
+use kdf_alone::LonePort;
 use kdf_journal::{Entry, Journal};
 use kdf_processor::{Buffer, Life, Registers, Step, obey_at_once, obey_in_general};
 use kdf_word::Word;
@@ -18,7 +18,7 @@ use std::alloc::AllocError;
 #[inline(always)]
 fn obey_at_hand(
     registers: &mut Registers,
-    desk: &mut Desk<'_>,
+    desk: &mut CheckPort<'_>,
     held: &mut Option<Buffer>,
 ) -> Option<()>
     requires ran { registers.old.ran < u32.MAX }
@@ -39,7 +39,7 @@ fn obey_at_hand(
 #[inline(always)]
 fn obey_next(
     registers: &mut Registers,
-    desk: &mut Desk<'_>,
+    desk: &mut CheckPort<'_>,
     held: &mut Option<Buffer>,
 ) -> Result<Step, AllocError>
     requires live { registers.old.state ≡ Life.Live }
@@ -60,11 +60,11 @@ fn obey_next(
 
 /// Obeys orders of a live program up to one of which an entry tells, that is held or that ends it, and at most so many. Answers how many were
 /// obeyed before the last, and how the last ended, with its entry. At Err that had no memory, and has changed nothing. It is inlined where the
-/// desk is made: passed on by its address, that would be read anew by each order.
+/// check port is made: passed on by its address, that would be read anew by each order.
 #[inline(always)]
 fn obey_quiet(
     registers: &mut Registers,
-    desk: &mut Desk<'_>,
+    desk: &mut CheckPort<'_>,
     most: u32,
 ) -> (u32, Result<(Step, Option<Entry>), AllocError>)
     requires live { registers.old.state ≡ Life.Live }
@@ -111,7 +111,7 @@ fn obey_quiet(
 pub fn try_orders(
     registers: &mut Registers,
     p: u8,
-    bench: &mut Bench,
+    bench: &mut LonePort,
     table: &mut Table,
     journal: &Journal,
     heard: Word,
@@ -128,6 +128,6 @@ pub fn try_orders(
     ensures within { result.0 < most }
 {
     let order = registers.ran + 1;
-    let mut desk = Desk::new(p, bench, table, journal, heard, order);
+    let mut desk = CheckPort::new(p, bench, table, journal, heard, order);
     obey_quiet(registers, &mut desk, most)
 }

@@ -6,24 +6,24 @@ ghost use Rattle.kdf_transfer.specs.Slots.{Slot};
 ghost use Rattle.kdf_service.specs.Rules.{IsService};
 ghost use Rattle.kdf_processor.specs.Ahead.{act_word};
 ghost use Rattle.kdf_processor.specs.Outcome.{outcome};
-ghost use Rattle.kdf_alone.specs.Bench.{claims_of, stock_of, CanAsk};
+ghost use Rattle.kdf_alone.specs.LonePort.{claims_of, stock_of, CanAsk};
 ghost use Rattle.kdf_theory.specs.Next.{any_live, next};
 ghost use Rattle.kdf_theory.specs.Asked.{HasAsked};
 ghost use Rattle.kdf_theory.specs.InARow.{waited_on};
 ghost use Rattle.kdf_theory.specs.ByJournal.{lone_world};
 ghost use Rattle.kdf_check.specs.Around.{around_by};
-ghost use Rattle.kdf_check.specs.Desk.{shown_by};
+ghost use Rattle.kdf_check.specs.CheckPort.{shown_by};
 ghost use Rattle.kdf_check.specs.Keeps.{is_on, GoesOnFor, Keeps};
 ghost use Rattle.kdf_check.specs.Tried.{IsPosed};
 ghost use Rattle.kdf_check.specs.Turned.{AreTurned};
 
-use crate::desk::Desk;
+use crate::check_port::CheckPort;
 use crate::entering::{enter, hold_left};
 use crate::next::{is_any_on, next_of};
 use crate::program::Program;
 use crate::table::Table;
 use crate::trying::try_orders;
-use kdf_alone::Bench;
+use kdf_alone::LonePort;
 use kdf_journal::{CALL_LIMIT, Entry, Journal, MOVE_LIMIT};
 use kdf_processor::{Life, Port, Registers, asks_ahead, word_ahead};
 use kdf_service::Service;
@@ -34,7 +34,7 @@ use std::alloc::AllocError;
 fn word_asked(
     registers: &Registers,
     p: u8,
-    bench: &mut Bench,
+    bench: &mut LonePort,
     table: &mut Table,
     journal: &Journal,
 ) -> Option<Word>
@@ -45,17 +45,17 @@ fn word_asked(
     ensures table { table.new ≡ table.old }
 {
     let order = registers.ran + 1;
-    let desk = Desk::new(p, bench, table, journal, Word::default(), order);
+    let desk = CheckPort::new(p, bench, table, journal, Word::default(), order);
     asks_ahead(registers, &desk)
 }
 
 /// What the service answers to the word of which the next order of a program asks it; None where that asks nothing. Most programs aren't
 /// served: this stays out of the way of their orders.
 #[inline(never)]
-fn hear<F: Fn(u64) -> u64>(
+fn answer_if_asked<F: Fn(u64) -> u64>(
     registers: &Registers,
     p: u8,
-    bench: &mut Bench,
+    bench: &mut LonePort,
     table: &mut Table,
     journal: &Journal,
     service: &Service<F>,
@@ -77,10 +77,10 @@ fn hear<F: Fn(u64) -> u64>(
 
 /// What is heard of the service before the next order of a program. For one that isn't served this takes one test.
 #[inline(always)]
-fn heard<F: Fn(u64) -> u64>(
+fn service_answer<F: Fn(u64) -> u64>(
     registers: &Registers,
     p: u8,
-    bench: &mut Bench,
+    bench: &mut LonePort,
     table: &mut Table,
     journal: &Journal,
     service: &Service<F>,
@@ -94,7 +94,7 @@ fn heard<F: Fn(u64) -> u64>(
     ensures table { table.new ≡ table.old }
 {
     if bench.served() {
-        hear(registers, p, bench, table, journal, service)
+        answer_if_asked(registers, p, bench, table, journal, service)
     } else {
         None
     }
@@ -103,7 +103,7 @@ fn heard<F: Fn(u64) -> u64>(
 /// How many of so many orders of a program are tried with nothing heard between them. The service of one that is served may be heard before
 /// each.
 #[inline(always)]
-fn batch_of(bench: &Bench, most: u32) -> u32
+fn batch_of(bench: &LonePort, most: u32) -> u32
     requires { 0 < most }
     ensures some { 0 < result }
     ensures few { result ≤ most }
@@ -140,7 +140,7 @@ fn turn<F: Fn(u64) -> u64>(
     ensures within { IfOk result (λ made. made ≤ most) }
 {
     let p = program.p;
-    let answer = heard(
+    let answer = service_answer(
         &program.registers,
         p,
         &mut program.bench,

@@ -4,7 +4,7 @@ ghost use Rattle.kdf_command.specs.Commands.{HasAddress, HasSlot, address_of_wor
 ghost use Rattle.kdf_command.specs.Values.{any_hyphen, is_empty};
 
 mod values;
-pub mod worked;
+pub mod worked_commands;
 
 use kdf_job::TEXT_LIMIT;
 use kdf_limits::LAST_ADDRESS;

@@ -3,6 +3,4 @@
 
 mod command;
 
-pub use command::{
-    Command, Input, JOB_LIMIT, USAGE, command_of, limit_by, worked as worked_commands,
-};
+pub use command::{Command, Input, JOB_LIMIT, USAGE, command_of, limit_by, worked_commands};

@@ -4,11 +4,11 @@ use Rattle.std.proofs.Common.{length, ⊎_elim}
 use Rattle.std.proofs.lemmas.Bool.{cases_lt}
 use Rattle.std.proofs.lemmas.List.{append-nil, length-drop, take-append-drop}
 use Rattle.kdf_journal.specs.declared.entry.Entry.{Entry}
-use Rattle.kdf_journal.specs.Steps.{Note, Step, journal_of, steps}
+use Rattle.kdf_journal.specs.Steps.{Note, JournalStep, journal_of, steps}
 use Rattle.kdf_journal.proofs.Steps.{steps-journal_of}
 use Rattle.kdf_schedule.specs.declared.event.Event.{Event}
 use Rattle.kdf_schedule.specs.Calls.{Call, calls_made}
-use Rattle.kdf_course.specs.World.{World, any_live}
+use Rattle.kdf_course.specs.World.{Dispatch, any_live}
 use Rattle.kdf_course.specs.Legal.{EachMeets, EachNoted, IsLegal}
 use Rattle.kdf_course.specs.Follows.{answered, EachLive, IsWhole, IsJournal}
 use Rattle.kdf_course.specs.Cut.{oldest, cut}
@@ -17,22 +17,23 @@ use Rattle.kdf_course.proofs.Reaching.{answered-append}
 use Rattle.kdf_course.proofs.Steps.{legal-journal_of}
 
 -- older steps met the rules
-meets-older : (W : List Entry → World) (admits : List Entry → ℕ → Note → Type 0) (Q P : List Step) → EachMeets W admits (Q ++ P) → EachMeets W admits P
+meets-older : (W : List Entry → Dispatch) (admits : List Entry → ℕ → Note → Type 0) (Q P : List JournalStep) → EachMeets W admits (Q ++ P)
+    → EachMeets W admits P
 meets-older W admits [] P m = m
 meets-older W admits (s ∷ Q) P m = meets-older W admits Q P m.0
 
 -- and their notes were admitted
-noted-older : (admits : List Entry → ℕ → Note → Type 0) (Q P : List Step) → EachNoted admits (Q ++ P) → EachNoted admits P
+noted-older : (admits : List Entry → ℕ → Note → Type 0) (Q P : List JournalStep) → EachNoted admits (Q ++ P) → EachNoted admits P
 noted-older admits [] P n = n
 noted-older admits (s ∷ Q) P n = noted-older admits Q P n.0
 
 -- and a program was live before each of them
-lived-older : (W : List Entry → World) (Q P : List Step) → EachLive W (Q ++ P) → EachLive W P
+lived-older : (W : List Entry → Dispatch) (Q P : List JournalStep) → EachLive W (Q ++ P) → EachLive W P
 lived-older W [] P l = l
 lived-older W (s ∷ Q) P l = lived-older W Q P l.0
 
-module _ (n : ℕ) (P : List Step) where
-  abbrev newer : List Step
+module _ (n : ℕ) (P : List JournalStep) where
+  abbrev newer : List JournalStep
   newer = take (length P - n) P
 
   parts : newer ++ oldest n P ≡ P
@@ -41,13 +42,13 @@ module _ (n : ℕ) (P : List Step) where
   count : length (oldest n P) ≡ length P - (length P - n)
   count = length-drop (length P - n) P
 
-  pub oldest-meets : (W : List Entry → World) (admits : List Entry → ℕ → Note → Type 0) → EachMeets W admits P → EachMeets W admits (oldest n P)
+  pub oldest-meets : (W : List Entry → Dispatch) (admits : List Entry → ℕ → Note → Type 0) → EachMeets W admits P → EachMeets W admits (oldest n P)
   oldest-meets W admits m = meets-older W admits newer (oldest n P) (subst (EachMeets W admits) (sym parts) m)
 
   pub oldest-noted : (admits : List Entry → ℕ → Note → Type 0) → EachNoted admits P → EachNoted admits (oldest n P)
   oldest-noted admits e = noted-older admits newer (oldest n P) (subst (EachNoted admits) (sym parts) e)
 
-  oldest-lived : (W : List Entry → World) → EachLive W P → EachLive W (oldest n P)
+  oldest-lived : (W : List Entry → Dispatch) → EachLive W P → EachLive W (oldest n P)
   oldest-lived W l = lived-older W newer (oldest n P) (subst (EachLive W) (sym parts) l)
 
   oldest-answered : (cs : List Call) × (answered P ≡ answered (oldest n P) ++ cs)
@@ -58,7 +59,7 @@ module _ (n : ℕ) (P : List Step) where
       let e : length P - n ≡ 0 = omega (arith, le) in
       ap (λ (k : ℕ). drop k P) e
 
-pub legal-cut : (W : List Entry → World) (admits : List Entry → ℕ → Note → Type 0) (n : ℕ) (J : List Entry) → IsLegal W admits J → IsLegal W admits (cut n J)
+pub legal-cut : (W : List Entry → Dispatch) (admits : List Entry → ℕ → Note → Type 0) (n : ℕ) (J : List Entry) → IsLegal W admits J → IsLegal W admits (cut n J)
 legal-cut W admits n J l = legal-journal_of W admits (oldest n (steps J)) (oldest-meets n (steps J) W admits l.each)
 
 pub noted-cut : (admits : List Entry → ℕ → Note → Type 0) (n : ℕ) (J : List Entry) → EachNoted admits (steps J) → EachNoted admits (steps (cut n J))
@@ -79,8 +80,8 @@ none_before : (xs ys : List Call) → xs ++ ys ≡ [] → xs ≡ []
 none_before [] ys e = refl
 none_before (x ∷ xs) ys e = cc
 
-module _ (W : List Entry → World) (first rest : List Call) (J : List Entry) (form : journal_of (steps J) ≡ J) (w : IsWhole W (first ++ rest) J) where
-  abbrev P : List Step
+module _ (W : List Entry → Dispatch) (first rest : List Call) (J : List Entry) (form : journal_of (steps J) ≡ J) (w : IsWhole W (first ++ rest) J) where
+  abbrev P : List JournalStep
   P = oldest (length first) (steps J)
 
   lived : EachLive W (steps (journal_of P))
@@ -93,7 +94,7 @@ module _ (W : List Entry → World) (first rest : List Call) (J : List Entry) (f
       let r = left_of (answered (steps J)) w.left first rest w.follows.in_order (omega (arith, le, length-answered (steps J))) in
       record {
         left = r.0;
-        follows = record { in_order = ap (λ (R : List Step). answered R ++ r.0) (steps-journal_of P ∙ same) ∙ r.1.0; lived = lived };
+        follows = record { in_order = ap (λ (R : List JournalStep). answered R ++ r.0) (steps-journal_of P ∙ same) ∙ r.1.0; lived = lived };
         at_end = by_end r.0 r.1.1 w.at_end;
       }
     where
@@ -128,7 +129,7 @@ module _ (W : List Entry → World) (first rest : List Call) (J : List Entry) (f
       (λ (le : length (steps J) ≤ length first). all_kept le)
       (cases_lt (length first) (length (steps J)))
 
-pub journal-cut : (W : List Entry → World) (admits : List Entry → ℕ → Note → Type 0) (events earlier : List Event) (later : List Call) (J : List Entry)
+pub journal-cut : (W : List Entry → Dispatch) (admits : List Entry → ℕ → Note → Type 0) (events earlier : List Event) (later : List Call) (J : List Entry)
     → IsJournal W admits events J → calls_made events ≡ calls_made earlier ++ later → IsJournal W admits earlier (cut (length (calls_made earlier)) J)
 journal-cut W admits events earlier later J j is = record {
   legal = legal-cut W admits (length (calls_made earlier)) J j.legal;

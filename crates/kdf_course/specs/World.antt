@@ -6,7 +6,7 @@ use Rattle.kdf_journal.specs.declared.entry.Entry.{Entry}
 use Rattle.kdf_journal.specs.Counts.{Hold, last_hold, over, priorities, slot_numbers}
 
 -- which programs there are, what of each is pending, and what holds its next order up
-pub record World : Type 0 where
+pub record Dispatch : Type 0 where
   pub there : ℕ → Bool
   pub pending : ℕ → Hold → Bool
   pub held : ℕ → Option Hold
@@ -16,16 +16,16 @@ unfoldable pub lives : (there : ℕ → Bool) → List Entry → ℕ → Bool
 lives there J p = there p && not (over p J)
 
 -- what held a program is pending still
-abbrev pub stands : World → ℕ → Option Hold → Bool
+abbrev pub stands : Dispatch → ℕ → Option Hold → Bool
 stands w p None = false
 stands w p (Some by) = w.pending p by
 
 -- a live program without a standing hold
-unfoldable pub can_go : World → List Entry → ℕ → Bool
+unfoldable pub can_go : Dispatch → List Entry → ℕ → Bool
 can_go w J p = lives w.there J p && not (stands w p (last_hold p J))
 
 -- the live program of highest priority that has no standing hold
-unfoldable pub next : World → List Entry → Option ℕ
+unfoldable pub next : Dispatch → List Entry → Option ℕ
 next w J = find (can_go w J) (priorities J)
 
 -- a program is live

@@ -2,14 +2,14 @@
 use Rattle.std.specs.Prelude.{ℕ, List, [], ◌∷◌, ◌++◌, true, false, Option, Some, None, replicate}
 use Rattle.kdf_journal.specs.declared.kind.Kind.TheVariants.{Tp}
 use Rattle.kdf_tape.specs.Examples.{block}
-use Rattle.kdf_transfer.specs.Devices.{Fixture, Progress, new_progress}
+use Rattle.kdf_transfer.specs.Devices.{Fixture, DeviceProgress, new_progress}
 use Rattle.kdf_transfer.specs.Examples.{ab, all_a, all_b, having, paper, placed, reel, winding, writer}
 use Rattle.kdf_transfer.specs.declared.order.TransferOrder.TheVariants.{Prq, Pwq, Mbrq}
 use Rattle.kdf_processor.specs.State.{State, new_registers}
 use Rattle.kdf_theory.specs.Flights.{Flight, beginning, completed, moved_to, with_flight}
 
 -- a program with a store of 34 words, each of them 7, and two devices, which it has claimed
-abbrev pub holding : (one two : Fixture) → (at_one at_two : Progress) → State
+abbrev pub holding : (one two : Fixture) → (at_one at_two : DeviceProgress) → State
 holding one two at_one at_two =
     record {
       registers = new_registers;

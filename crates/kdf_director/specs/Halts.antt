@@ -10,7 +10,7 @@ use Rattle.kdf_director.specs.declared.machine.Progress.{Progress}
 use Rattle.kdf_director.specs.declared.machine.Progress.TheVariants as progress
 use Rattle.kdf_director.specs.Progressed.{found_live}
 use Rattle.kdf_director.specs.Runs.{HasMadeOn, HasMadeSome}
-use Rattle.kdf_theory.specs.Shown.{Shown, ShowsSeen, state_of}
+use Rattle.kdf_theory.specs.MachineView.{MachineView, ShowsSeen, state_of}
 
 -- whether calls stop where program p, whose registers are these now, has obeyed an order; `at` is the place of its next one
 abbrev pub halts : Halt → ℕ → Option Registers → Bool
@@ -32,14 +32,14 @@ halt_inside Each = Never
 halt_inside (At p at) = At p at
 
 -- whether they stop after a call that answers so
-abbrev pub stops : Halt → Shown → Progress → Bool
+abbrev pub stops : Halt → MachineView → Progress → Bool
 stops halt m (progress.Ran p) = halts halt p (option_map (λ (s : State). s.registers) (state_of m p))
 stops halt m (progress.Held p need) = false
 stops halt m progress.Idle = false
 stops halt m progress.AllEnded = false
 
 -- a call with a service that found a live program, and after which they don't stop
-pub record IsPassed (answers : ℕ → ℕ → Type 0) (halt : Halt) (old new : Shown) : Type 0 where
+pub record IsPassed (answers : ℕ → ℕ → Type 0) (halt : Halt) (old new : MachineView) : Type 0 where
   pub progress : Progress
   pub made : HasMadeSome answers 1 old new progress
   pub live : found_live progress ≡ true
@@ -47,25 +47,25 @@ pub record IsPassed (answers : ℕ → ℕ → Type 0) (halt : Halt) (old new : 
   pub seen : ShowsSeen new
 
 -- so many of them
-abbrev pub HasPassed : (answers : ℕ → ℕ → Type 0) → Halt → ℕ → Shown → Shown → Type 0
+abbrev pub HasPassed : (answers : ℕ → ℕ → Type 0) → Halt → ℕ → MachineView → MachineView → Type 0
 HasPassed answers halt zero old new = new ≡ old
 HasPassed answers halt (suc n) old new =
-    (between : Shown) × HasPassed answers halt n old between × IsPassed answers halt between new
+    (between : MachineView) × HasPassed answers halt n old between × IsPassed answers halt between new
 
 -- so they were made where they may stop at all
-abbrev pub ArePassed : (answers : ℕ → ℕ → Type 0) → Halt → ℕ → Shown → Shown → Type 0
+abbrev pub ArePassed : (answers : ℕ → ℕ → Type 0) → Halt → ℕ → MachineView → MachineView → Type 0
 ArePassed answers Never n old new = Unit {0}
 ArePassed answers Each n old new = HasPassed answers Each n old new
 ArePassed answers (At p at) n old new = HasPassed answers (At p at) n old new
 
 -- so many calls in one run, of which the last answers so, and those before it were passed
-pub record HasMadeSomePast (answers : ℕ → ℕ → Type 0) (halt : Halt) (n : ℕ) (old new : Shown)
+pub record HasMadeSomePast (answers : ℕ → ℕ → Type 0) (halt : Halt) (n : ℕ) (old new : MachineView)
     (progress : Progress) : Type 0 where
   pub some : HasMadeSome answers n old new progress
   pub passed : ArePassed answers halt some.before old some.between
 
 -- or fewer, each of them passed, since the next one had no memory; the journal counts them
-pub record HasPassedButFewer (answers : ℕ → ℕ → Type 0) (halt : Halt) (n : ℕ) (old new : Shown) : Type 0 where
+pub record HasPassedButFewer (answers : ℕ → ℕ → Type 0) (halt : Halt) (n : ℕ) (old new : MachineView) : Type 0 where
   pub made : ℕ
   pub on : HasMadeOn answers made old new
   pub fewer : made < n
@@ -74,7 +74,7 @@ pub record HasPassedButFewer (answers : ℕ → ℕ → Type 0) (halt : Halt) (n
 
 -- of the calls that were left, those were made that aren't now; the last answers so, and where some are left still, it
 -- found no live program, or they stop there
-pub record HasMadeTo (answers : ℕ → ℕ → Type 0) (halt : Halt) (left rest : ℕ) (old new : Shown)
+pub record HasMadeTo (answers : ℕ → ℕ → Type 0) (halt : Halt) (left rest : ℕ) (old new : MachineView)
     (progress : Progress) : Type 0 where
   pub made : ℕ
   pub some : HasMadeSome answers made old new progress
@@ -83,7 +83,7 @@ pub record HasMadeTo (answers : ℕ → ℕ → Type 0) (halt : Halt) (left rest
   pub whole : (rest ≡ 0) ⊎ ((found_live progress ≡ false) ⊎ (stops halt new progress ≡ true))
 
 -- or fewer were made than were left, since the next one had no memory; how many is known where they may stop
-pub record HasMadeButTo (answers : ℕ → ℕ → Type 0) (halt : Halt) (left rest : ℕ) (old new : Shown) : Type 0 where
+pub record HasMadeButTo (answers : ℕ → ℕ → Type 0) (halt : Halt) (left rest : ℕ) (old new : MachineView) : Type 0 where
   pub made : ℕ
   pub on : HasMadeOn answers made old new
   pub fewer : made < left

@@ -13,7 +13,7 @@ use Rattle.kdf_transfer.specs.Slots.{Slot}
 use Rattle.kdf_processor.specs.State.{State, device_at, fixture_at, word_at}
 use Rattle.kdf_theory.specs.Flights.{Flight, move_count, touches}
 use Rattle.kdf_yard.specs.Fields.Parts.{window_at}
-use Rattle.kdf_theory.specs.Shown.{Shown, state_of}
+use Rattle.kdf_theory.specs.MachineView.{MachineView, state_of}
 use Rattle.kdf_theory.specs.Slots.{slot_of}
 use Rattle.kdf_theory.specs.ByJournal.{flights_of, is_pending_after, own_after}
 use Rattle.kdf_limits.specs.declared.store.TheConstants.{DIRECTOR_WORDS}
@@ -42,7 +42,7 @@ place_of slots p a = (window_at (windows_in slots) p).base + a
 
 -- the group of address a of program p is out of the store exactly where it is pending for the program; where it is
 -- here, the store has the program's word at its place
-pub record IsStored (m : Shown) (cells : Cells) (p a : ℕ) (own : State) : Type 0 where
+pub record IsStored (m : MachineView) (cells : Cells) (p a : ℕ) (own : State) : Type 0 where
   pub out : is_out cells (place_of m.slots p a / 32)
       ≡ is_pending_after m.slots m.journal p (Group (group_of a))
   pub word : is_out cells (place_of m.slots p a / 32) ≡ false
@@ -53,7 +53,7 @@ pub record IsStored (m : Shown) (cells : Cells) (p a : ℕ) (own : State) : Type
 -- The transfer on device d of program p, which has claimed the device, is this flight: its device is as at the begin,
 -- it moves as many words and has moved as many, its lease has exactly the groups that the area touches in the program's
 -- window, and these have the program's words.
-pub record IsFlight (m : Shown) (p d : ℕ) (own : State) (t : Motion) (f : Flight) : Type 0 where
+pub record IsFlight (m : MachineView) (p d : ℕ) (own : State) (t : Motion) (f : Flight) : Type 0 where
   pub claimed : is_claimed own.stock.claims d ≡ true
   pub order : t.order ≡ f.order
   pub fixture : fixture_at f.before.stock.claims d ≡ Some t.fixture
@@ -67,14 +67,14 @@ pub record IsFlight (m : Shown) (p d : ℕ) (own : State) (t : Motion) (f : Flig
       → lent_at t.lease (place_of m.slots p a) ≡ word_at own a
 
 -- it is the one that own order k of program p began on device d, which met this state of the program's lone run
-pub record IsBegun (m : Shown) (p k d : ℕ) (t : Motion) : Type 0 where
+pub record IsBegun (m : MachineView) (p k d : ℕ) (t : Motion) : Type 0 where
   pub flight : Flight
   pub told : flights_of m.slots m.journal p d ≡ Some flight
   pub before : flight.before ≡ own_after m.slots m.journal p (k - 1)
   pub is_it : IsSomeAnd (state_of m p) (λ own. IsFlight m p d own t flight)
 
 -- the transfer on device d, by what the journal has pending there
-abbrev pub IsLent : Shown → ℕ → Option (ℕ × ℕ) → Option Motion → Type 0
+abbrev pub IsLent : MachineView → ℕ → Option (ℕ × ℕ) → Option Motion → Type 0
 IsLent m d None t = t ≡ None
 IsLent m d (Some begun) None = ⊥
 IsLent m d (Some begun) (Some t) = IsBegun m begun.0 begun.1 d t

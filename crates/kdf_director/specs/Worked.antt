@@ -7,7 +7,7 @@ use Rattle.kdf_journal.specs.Steps.{journal_of}
 use Rattle.kdf_schedule.specs.declared.event.Event.{Event}
 use Rattle.kdf_schedule.specs.declared.event.Event.TheVariants.{Orders, End}
 use Rattle.kdf_schedule.specs.Calls.{calls_made}
-use Rattle.kdf_transfer.specs.Devices.{Fixture, Progress, new_progress}
+use Rattle.kdf_transfer.specs.Devices.{Fixture, DeviceProgress, new_progress}
 use Rattle.kdf_transfer.specs.Examples.{having, paper, writer}
 use Rattle.kdf_transfer.specs.Slots.{Slot}
 use Rattle.kdf_transfer.specs.ByNumber.{device_count}
@@ -106,7 +106,7 @@ reads_journal = journal_under (reads ∷ []) (Orders 12 ∷ End 3 ∷ Orders 5 �
 abbrev pub words_seen : List Slot → List Entry → List ℕ
 words_seen slots J = map (word_at (seen_of slots J 0)) (32 ∷ 33 ∷ [])
 
-abbrev pub device_seen : List Slot → List Entry → ℕ → Progress
+abbrev pub device_seen : List Slot → List Entry → ℕ → DeviceProgress
 device_seen slots J d = device_at (seen_of slots J 0) d
 
 -- two programs with the orders of `punches`, no devices of their own, and a pool of one punch, device 9

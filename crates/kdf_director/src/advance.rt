@@ -1,13 +1,13 @@
 //! Calls of a machine that are made at once: the orders of one program, or idle calls.
 ghost use Rattle.std.specs.Prelude.{◌≡◌, ◌+◌, ◌<◌, ◌≤◌, if◌then◌else◌, false, length, slice_set, true, None, Ok, Some, IfOk, OnErr};
-ghost use Rattle.kdf_journal.specs.declared.entry.Entry.TheVariants.{Idle as Idled};
+ghost use Rattle.kdf_journal.specs.declared.entry.Entry.TheVariants as entry;
 ghost use Rattle.kdf_journal.specs.Counts.{calls, moves, priorities};
 ghost use Rattle.kdf_journal.specs.Joined.{pushed};
 ghost use Rattle.kdf_processor.specs.declared.step.Step.TheVariants.{Done};
 ghost use Rattle.kdf_service.specs.Rules.{IsService};
 ghost use Rattle.kdf_director.specs.declared.halt.Halt.TheVariants.{Each, Never};
 ghost use Rattle.kdf_director.specs.declared.machine.Progress.TheVariants.{AllEnded, Idle};
-ghost use Rattle.kdf_yard.specs.declared.note.Note.TheVariants.{Quiet};
+ghost use Rattle.kdf_yard.specs.declared.remark.Remark.TheVariants.{Quiet};
 ghost use Rattle.kdf_director.specs.Fields.Agrees.{IsReady};
 ghost use Rattle.kdf_yard.specs.Fields.Parts.{seat_of};
 ghost use Rattle.kdf_director.specs.Fields.Viewed.{shown_of};
@@ -21,7 +21,7 @@ use crate::{Halt, Progress};
 use kdf_journal::{CALL_LIMIT, Entry, Journal, MOVE_LIMIT};
 use kdf_processor::Step;
 use kdf_service::Service;
-use kdf_yard::{Batch, Note, Program, Seek, Yard, is_at};
+use kdf_yard::{Batch, Program, Remark, Seek, Yard, is_at};
 use std::alloc::AllocError;
 
 /// So many calls of a machine with a service, which leave room in the journal for so many events.
@@ -34,10 +34,10 @@ pub struct Calls<'a, F: Fn(u64) -> u64> {
 
 /// Whether an order was obeyed of which nothing is noted, so that the same program is next.
 #[inline(always)]
-fn is_quiet(tried: &Result<(Step, Note), AllocError>) -> bool
+fn is_quiet(tried: &Result<(Step, Remark), AllocError>) -> bool
     ensures { result ≡ true → tried.now ≡ Ok (Done, Quiet) }
 {
-    matches!(tried, Ok((Step::Done, Note::Quiet)))
+    matches!(tried, Ok((Step::Done, Remark::Quiet)))
 }
 
 /// Enters so many orders of a program of which nothing is noted, and how the turn after them ended, where it had
@@ -48,7 +48,7 @@ fn enter_tried(
     journal: &mut Journal,
     program: &mut Program,
     quiet: u32,
-    tried: Result<(Step, Note), AllocError>,
+    tried: Result<(Step, Remark), AllocError>,
 ) -> Result<(u32, Progress), AllocError>
     requires room { 2 ≤ journal.old.spare }
     requires few_calls { calls journal.old.entries + quiet < CALL_LIMIT }
@@ -76,7 +76,7 @@ fn enter_at(
     journal: &mut Journal,
     i: usize,
     quiet: u32,
-    tried: Result<(Step, Note), AllocError>,
+    tried: Result<(Step, Remark), AllocError>,
 ) -> Result<(u32, Progress), AllocError>
     requires there { i < length yard.old.seats }
     requires room { 2 ≤ journal.old.spare }
@@ -161,7 +161,7 @@ fn wait(yard: &Yard, journal: &mut Journal, most: u32) -> (u32, Progress)
     requires few_moves { moves journal.old.entries ≤ MOVE_LIMIT }
     ensures answer { result ≡ (if any_in yard.now then (most, Idle) else (1, AllEnded)) }
     ensures entries { journal.new.entries ≡ (if any_in yard.now
-        then pushed journal.old.entries (Idled most) else journal.old.entries) }
+        then pushed journal.old.entries (entry.Idle most) else journal.old.entries) }
     ensures spare { journal.old.spare ≤ journal.new.spare + 1 }
 {
     if yard.is_any_on() {

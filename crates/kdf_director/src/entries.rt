@@ -14,7 +14,7 @@ ghost use Rattle.kdf_theory.specs.World.{hold_left, hold_of};
 use crate::Progress;
 use kdf_journal::{CALL_LIMIT, Entry, Journal, MOVE_LIMIT};
 use kdf_processor::{Need, Step};
-use kdf_yard::{Note, Program};
+use kdf_yard::{Program, Remark};
 
 /// Enters that a program obeyed so many orders of which nothing is noted, and how the turn after them ended, and tells
 /// that. From now on the program is held by what held its last order, or by nothing.
@@ -24,7 +24,7 @@ pub(crate) fn enter(
     program: &mut Program,
     quiet: u32,
     step: Step,
-    note: Note,
+    note: Remark,
 ) -> Progress
     requires room { 2 ≤ journal.old.spare }
     requires few_calls { calls journal.old.entries + quiet < CALL_LIMIT }
@@ -74,7 +74,7 @@ pub(crate) fn enter_quiet(journal: &mut Journal, program: &mut Program, quiet: u
 
 /// Counts so many orders of program `p`, the last of which is its own order `k` and ended so, with its note.
 #[inline(always)]
-fn write(journal: &mut Journal, p: u8, n: u32, k: u32, step: Step, note: Note)
+fn write(journal: &mut Journal, p: u8, n: u32, k: u32, step: Step, note: Remark)
     requires room { 2 ≤ journal.old.spare }
     requires few_calls { calls journal.old.entries + n ≤ CALL_LIMIT }
     requires few_moves { moves journal.old.entries ≤ MOVE_LIMIT }
@@ -92,7 +92,7 @@ fn write(journal: &mut Journal, p: u8, n: u32, k: u32, step: Step, note: Note)
 
 /// Enters what was noted of the order just counted.
 #[inline(always)]
-fn write_note(journal: &mut Journal, p: u8, k: u32, note: Note)
+fn write_note(journal: &mut Journal, p: u8, k: u32, note: Remark)
     requires room { 1 ≤ journal.old.spare }
     requires few_calls { calls journal.old.entries ≤ CALL_LIMIT }
     requires few_moves { moves journal.old.entries ≤ MOVE_LIMIT }
@@ -100,11 +100,11 @@ fn write_note(journal: &mut Journal, p: u8, k: u32, note: Note)
     ensures spare { journal.old.spare ≤ journal.new.spare + 1 }
 {
     match note {
-        Note::Quiet => {}
-        Note::Began(d) => journal.push(Entry::Start { p, d, k }),
-        Note::Told(v) => journal.push(Entry::Answer { p, v }),
-        Note::Took(d) => journal.push(Entry::Take { p, d }),
-        Note::Gave(d) => journal.push(Entry::Give { p, d }),
+        Remark::Quiet => {}
+        Remark::Began(d) => journal.push(Entry::Start { p, d, k }),
+        Remark::Told(v) => journal.push(Entry::Answer { p, v }),
+        Remark::Took(d) => journal.push(Entry::Take { p, d }),
+        Remark::Gave(d) => journal.push(Entry::Give { p, d }),
     }
 }
 

@@ -8,7 +8,7 @@ ghost use Rattle.kdf_transfer.specs.Devices.{new_progress};
 ghost use Rattle.kdf_processor.specs.declared.step.Need.TheVariants.{Device, Group};
 ghost use Rattle.kdf_director.specs.Examples.{backwards, behind, both, done, reading, ready, sevens, wound};
 ghost use Rattle.kdf_theory.specs.Flights.{moved_to, with_flight};
-ghost use Rattle.kdf_theory.specs.Seen.{pending, seen, with_both, with_store};
+ghost use Rattle.kdf_theory.specs.Seen.{pending_in_flight, seen, with_both, with_store};
 
 /// A reader and a punch whose transfers are both in flight: the words that were moved to the store are seen, and of the
 /// devices nothing.
@@ -30,11 +30,11 @@ pub fn one_ended()
 
 /// While both are in flight the groups of their areas are pending, and their devices.
 pub fn pending_needs()
-    ensures groups { map (pending (both 1 1)) (Group 0 ∷ Group 1 ∷ Group 2 ∷ [])
+    ensures groups { map (pending_in_flight (both 1 1)) (Group 0 ∷ Group 1 ∷ Group 2 ∷ [])
         ≡ true ∷ true ∷ false ∷ [] }
-    ensures devices { map (pending (both 1 1)) (Device 0 ∷ Device 1 ∷ Device 2 ∷ Device 3 ∷ [])
+    ensures devices { map (pending_in_flight (both 1 1)) (Device 0 ∷ Device 1 ∷ Device 2 ∷ Device 3 ∷ [])
         ≡ false ∷ true ∷ true ∷ false ∷ [] }
-    ensures ended { map (pending (with_flight 1 None (both 2 1))) (Group 0 ∷ Group 1 ∷ Device 1 ∷ [])
+    ensures ended { map (pending_in_flight (with_flight 1 None (both 2 1))) (Group 0 ∷ Group 1 ∷ Device 1 ∷ [])
         ≡ false ∷ true ∷ false ∷ [] }
 {}
 

@@ -17,7 +17,7 @@ ghost use Rattle.kdf_processor.specs.State.{Lending, State, begin, device_in, is
 ghost use Rattle.kdf_theory.specs.Flights.{Flight, beginning, completed, flights_after, move_count, unmoved};
 ghost use Rattle.kdf_theory.specs.Flights.{mine_of, with_flight, with_moved};
 ghost use Rattle.kdf_theory.specs.Flying.{AreFlying};
-ghost use Rattle.kdf_theory.specs.Seen.{begun_row, pending, seen, with_both, with_store};
+ghost use Rattle.kdf_theory.specs.Seen.{begun_row, pending_in_flight, seen, with_both, with_store};
 ghost use Rattle.kdf_theory.specs.Slots.{IsSlot};
 
 pub mod journals;
@@ -27,21 +27,21 @@ pub mod served;
 /// transfers stay in flight; one that it begins is in flight then, and shows nothing yet.
 pub fn commute()
     ensures begun { (flights : ℕ → Option Flight) (mine : List ℕ) (answer : Question → ℕ)
-        (s : State) → HidesNone (pending flights) (needs s mine) → begun_row (seen flights s) answer
+        (s : State) → HidesNone (pending_in_flight flights) (needs s mine) → begun_row (seen flights s) answer
         ≡ seen (flights_after flights s (next_effect s)) (row s answer) }
     ensures hidden { (flights : ℕ → Option Flight) (mine : List ℕ) (answer : Question → ℕ)
-        (s : State) → HidesNone (pending flights) (needs s mine) →
+        (s : State) → HidesNone (pending_in_flight flights) (needs s mine) →
         seen (flights_after flights s (next_effect s)) (row (seen flights s) answer)
         ≡ seen (flights_after flights s (next_effect s)) (row s answer) }
     ensures flying { (flights : ℕ → Option Flight) (mine : List ℕ) (answer : Question → ℕ)
-        (s : State) → AreFlying flights s → HidesNone (pending flights) (needs s mine)
+        (s : State) → AreFlying flights s → HidesNone (pending_in_flight flights) (needs s mine)
         → AreFlying (flights_after flights s (next_effect s)) (row s answer) }
 {}
 
 /// An order done at once, also one that moves words, does the same to what is seen as to the lone state.
 pub fn at_once()
     ensures { (flights : ℕ → Option Flight) (mine : List ℕ) (answer : Question → ℕ) (s : State) →
-        HidesNone (pending flights) (needs s mine) →
+        HidesNone (pending_in_flight flights) (needs s mine) →
         row (seen flights s) answer ≡ seen flights (row s answer) }
 {}
 
@@ -50,7 +50,7 @@ pub fn begins()
     ensures { (flights : ℕ → Option Flight) (mine : List ℕ) (answer : Question → ℕ) (s : State)
         (d : ℕ) (o : TransferOrder) (first last : ℕ) (after : Registers) →
         next_effect s ≡ Starting d o first last after →
-        HidesNone (pending flights) (needs s mine) → begun_row (seen flights s) answer
+        HidesNone (pending_in_flight flights) (needs s mine) → begun_row (seen flights s) answer
         ≡ seen (with_flight d (Some (beginning o first last s)) flights) (row s answer) }
 {}
 
@@ -80,16 +80,16 @@ pub fn ends()
 /// one of those that are pending.
 pub fn same_needs()
     ensures all { (flights : ℕ → Option Flight) (mine : List ℕ) (s : State) →
-        HidesNone (pending flights) (needs s mine) → needs (seen flights s) mine ≡ needs s mine }
+        HidesNone (pending_in_flight flights) (needs s mine) → needs (seen flights s) mine ≡ needs s mine }
     ensures first { (flights : ℕ → Option Flight) (mine : List ℕ) (s : State) →
-        find (pending flights) (needs (seen flights s) mine)
-        ≡ find (pending flights) (needs s mine) }
+        find (pending_in_flight flights) (needs (seen flights s) mine)
+        ≡ find (pending_in_flight flights) (needs s mine) }
 {}
 
 /// A program that an order fails or ends, none of whose needs is pending, has no transfer in flight.
 pub fn none_at_the_end()
     ensures { (flights : ℕ → Option Flight) (answer : Question → ℕ) (s : State) →
-        AreFlying flights s → HidesNone (pending flights) (needs s (mine_of flights)) →
+        AreFlying flights s → HidesNone (pending_in_flight flights) (needs s (mine_of flights)) →
         is_live s.registers.state ≡ true → is_live (row s answer).registers.state ≡ false →
         (d : ℕ) → flights d ≡ None }
 {}

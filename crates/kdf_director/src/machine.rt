@@ -22,7 +22,7 @@ ghost use Rattle.kdf_director.specs.Fields.Viewed.{shown_of};
 ghost use Rattle.kdf_theory.specs.Next.{any_live};
 ghost use Rattle.kdf_director.specs.Runs.{HasMadeAtMost, HasMadeButFewer};
 ghost use Rattle.kdf_theory.specs.Served.{unasked, IsAnswered, IsTrueFor};
-ghost use Rattle.kdf_theory.specs.Shown.{IsDeviceAt, ShowsSeen, state_of};
+ghost use Rattle.kdf_theory.specs.MachineView.{IsDeviceAt, ShowsSeen, state_of};
 ghost use Rattle.kdf_theory.specs.Slots.{NoneServed};
 
 #[cfg(test)]
@@ -79,9 +79,9 @@ pub struct Machine {
 }
 
 impl Model for Machine {
-    ghost use Rattle.kdf_theory.specs.Shown.{Shown};
+    ghost use Rattle.kdf_theory.specs.MachineView.{MachineView};
 
-    ghost Value = { Shown };
+    ghost Value = { MachineView };
 
     ghost use Rattle.kdf_director.specs.Fields.Machines.{shown, IsMachine};
 

@@ -11,7 +11,7 @@ ghost use Rattle.kdf_theory.specs.Follows.{IsRising, entries_in, time_behind};
 ghost use Rattle.kdf_theory.specs.Legal.{IsLegal};
 ghost use Rattle.kdf_theory.specs.Next.{any_live, lone_dispatched};
 ghost use Rattle.kdf_theory.specs.Served.{IsJournalFor, IsTrueFor};
-ghost use Rattle.kdf_theory.specs.Shown.{ShowsSeen};
+ghost use Rattle.kdf_theory.specs.MachineView.{ShowsSeen};
 ghost use Rattle.kdf_service.specs.Rules.{IsService};
 
 use crate::Machine;

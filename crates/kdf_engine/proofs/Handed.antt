@@ -1,7 +1,7 @@
 -- A text that is due is handed out whole, or its size is told.
 use Rattle.std.proofs.Common.{◌≡◌, ◌≢◌, ℕ, ◌<◌, ◌≤◌, ◌⊎◌, inl, inr, zero, suc, List, [], length, take, drop, true, Option, Some, refl, sym, ap, subst, ◌∙◌}
 use Rattle.std.proofs.Common.{arith}
-use Rattle.kdf_theory.specs.Shown.{Shown}
+use Rattle.kdf_theory.specs.MachineView.{MachineView}
 use Rattle.kdf_top.specs.declared.status.Status.{Status}
 use Rattle.kdf_top.specs.declared.status.Status.TheVariants as status
 use Rattle.kdf_top.specs.Answers.{IsCalledFor, IsDoneBy, IsDueFor}
@@ -23,7 +23,7 @@ module _ (words : List (List ℕ)) (job before after text : List ℕ) where
   -- where it fits
   pub handed_out : (given : Status) → IsCalledFor exchanged words job given → (is_command words ≡ true → given ≢ status.Usage) → given ≢ status.ReadFault
       → given ≢ status.WriteFault → given ≢ status.Memory → IsDueFor exchanged words job text
-      → (given ≡ status.Done → (kept : Option Shown) × IsDoneBy exchanged (command words) job kept (Some []) (Some text))
+      → (given ≡ status.Done → (kept : Option MachineView) × IsDoneBy exchanged (command words) job kept (Some []) (Some text))
       → take (length text) after ≡ text → drop (length text) after ≡ drop (length text) before
       → IsAnswered words job before after given (length text)
   handed_out given called usage read write memory due done front beyond = record {
@@ -76,7 +76,8 @@ no_text words job room = record {
 -- in either case
 pub handed : (words : List (List ℕ)) (job before after text : List ℕ) (called given : Status) (size : ℕ) → IsCalledFor exchanged words job called
     → (is_command words ≡ true → called ≢ status.Usage) → called ≢ status.ReadFault → called ≢ status.WriteFault → called ≢ status.Memory
-    → IsDueFor exchanged words job text → (called ≡ status.Done → (kept : Option Shown) × IsDoneBy exchanged (command words) job kept (Some []) (Some text))
+    → IsDueFor exchanged words job text
+    → (called ≡ status.Done → (kept : Option MachineView) × IsDoneBy exchanged (command words) job kept (Some []) (Some text))
     → size ≡ length text → (length text ≤ length before → given ≡ called) → (length text ≤ length before → take (length text) after ≡ text)
     → (length before < length text → given ≡ status.WriteFault) → (length before < length text → after ≡ before)
     → drop (length text) after ≡ drop (length text) before → IsAnswered words job before after given size

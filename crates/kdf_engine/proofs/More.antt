@@ -4,9 +4,9 @@ use Rattle.kdf_text.specs.Lines.{is_text, line, lines}
 use Rattle.kdf_journal.specs.declared.entry.Entry.{Entry}
 use Rattle.kdf_schedule.specs.declared.event.Event.{Event}
 use Rattle.kdf_transfer.specs.Slots.{Slot}
-use Rattle.kdf_job.specs.Job.{Job}
+use Rattle.kdf_job.specs.Job.{ShownJob}
 use Rattle.kdf_theory.specs.Served.{IsJournalFor}
-use Rattle.kdf_theory.specs.Shown.{Shown}
+use Rattle.kdf_theory.specs.MachineView.{MachineView}
 use Rattle.kdf_theory.proofs.Course.OneJournal.{true_for_more}
 use Rattle.kdf_check.specs.Report.{IsCheck, IsJudged, head_line, told_lines}
 use Rattle.kdf_check.specs.Verdict.{CanGoOn, IsFirstWrong, IsVerdict, TellJournal}
@@ -99,10 +99,10 @@ module _ (answers same : ℕ → ℕ → Type 0) (part : (n a : ℕ) → answers
   called_by_same (Some c) bytes called is = called_same (form_of c) (job_text c bytes) (called_by (Some c) bytes) called is
 
   -- ---- what is done
-  machine_same : (j : Job) (m : Shown) → IsMachineOf answers j m → IsMachineOf same j m
+  machine_same : (j : ShownJob) (m : MachineView) → IsMachineOf answers j m → IsMachineOf same j m
   machine_same j m is = record { slots = is.slots; journal = journal_same m.slots j.events m.journal is.journal; seen = is.seen; over = is.over }
 
-  keeps_same : (c : Command) (bytes : List ℕ) (kept : Option Shown) → Keeps answers c bytes kept → Keeps same c bytes kept
+  keeps_same : (c : Command) (bytes : List ℕ) (kept : Option MachineView) → Keeps answers c bytes kept → Keeps same c bytes kept
   keeps_same c bytes None is = is
   keeps_same c bytes (Some m) is = (is.0, machine_same (job_of c bytes) m is.1)
 
@@ -111,7 +111,7 @@ module _ (answers same : ℕ → ℕ → Type 0) (part : (n a : ℕ) → answers
   trusted_same AReport bytes is = is
   trusted_same ASnapshot bytes is = compared_same bytes status.Done is
 
-  done_same : (c : Option Command) (bytes : List ℕ) (kept : Option Shown) (before after : Option (List ℕ))
+  done_same : (c : Option Command) (bytes : List ℕ) (kept : Option MachineView) (before after : Option (List ℕ))
       → IsDoneBy answers c bytes kept before after → IsDoneBy same c bytes kept before after
   done_same None bytes kept before after is = is
   done_same (Some c) bytes kept before after is = (
@@ -128,7 +128,7 @@ module _ (answers same : ℕ → ℕ → Type 0) (part : (n a : ℕ) → answers
 
 -- ---- with the exchange, over a source that tells its bytes
 module _ (answers : ℕ → ℕ → Type 0) (part : (n a : ℕ) → answers n a → exchanged n a) (back : (n a : ℕ) → exchanged n a → answers n a) where
-  pub done_told : (c : Option Command) (left : Option (List ℕ)) (bytes : List ℕ) (kept : Option Shown) (before after : Option (List ℕ))
+  pub done_told : (c : Option Command) (left : Option (List ℕ)) (bytes : List ℕ) (kept : Option MachineView) (before after : Option (List ℕ))
       → left ≡ Some bytes
       → IfSome left (λ b. IsDoneBy answers c b kept before after) → IsDoneBy exchanged c bytes kept before after
   done_told c left bytes kept before after told is =

@@ -2,7 +2,7 @@
 use Rattle.std.proofs.Common.{◌≡◌, ◌≢◌, ℕ, ◌<◌, ◌≤◌, inl, inr, List, length, take, drop, Bool, true, false, Some, refl, sym, ap, subst, ◌∙◌}
 use Rattle.kdf_facts.specs.Run.{IsRunTold}
 use Rattle.kdf_facts.specs.Told.{IsAnswer, OfJob, TellsJob, called_over}
-use Rattle.kdf_job.specs.Job.{Job}
+use Rattle.kdf_job.specs.Job.{ShownJob}
 use Rattle.kdf_job.specs.Reading.{job}
 use Rattle.kdf_top.specs.Answers.{IsCalledBy, IsCalledFor}
 use Rattle.kdf_command.specs.Commands.{command, is_command}
@@ -23,7 +23,7 @@ other_answer false given bad answer usage none other e = other (sym (usage refl)
 
 -- ---- what is told with a service is told with another that gives these answers, too
 module _ (answers more : ℕ → ℕ → Type 0) (part : (n a : ℕ) → answers n a → more n a) where
-  run_more : (j : Job) (text : List ℕ) → IsRunTold answers j text → IsRunTold more j text
+  run_more : (j : ShownJob) (text : List ℕ) → IsRunTold answers j text → IsRunTold more j text
   run_more j text is = (is.0, journal_more answers more part _ _ is.0 is.1, is.2)
 
   pub tells_more : (bytes text : List ℕ) → OfJob (TellsJob answers) bytes text → OfJob (TellsJob more) bytes text

@@ -1,6 +1,6 @@
 -- What a call comes to: its answer, and what is handed out.
 use Rattle.std.specs.Prelude.{◌≡◌, ◌≢◌, ℕ, ◌<◌, ◌≤◌, List, [], true, length, take, drop, Option, Some}
-use Rattle.kdf_theory.specs.Shown.{Shown}
+use Rattle.kdf_theory.specs.MachineView.{MachineView}
 use Rattle.kdf_top.specs.Answers.{Answers, IsCalledFor, IsDoneBy, IsDueFor}
 use Rattle.kdf_command.specs.Commands.{command, is_command}
 use Rattle.kdf_top.specs.declared.status.Status.{Status}
@@ -18,7 +18,7 @@ pub record IsAnswered (words : List (List ℕ)) (job before after : List ℕ) (g
   pub usage : is_command words ≡ true → given ≢ status.Usage
   pub read : given ≢ status.ReadFault
   pub due : given ≢ status.Memory → IsHandedOut words job after given size
-  pub done : given ≡ status.Done → (kept : Option Shown) × IsDoneBy exchanged (command words) job kept (Some []) (Some (take size after))
+  pub done : given ≡ status.Done → (kept : Option MachineView) × IsDoneBy exchanged (command words) job kept (Some []) (Some (take size after))
   pub short : given ≡ status.WriteFault → length before < size
   pub room : (due : List ℕ) → IsDueFor exchanged words job due → length due ≤ length before → given ≢ status.WriteFault
   pub short_writes : given ≡ status.WriteFault → after ≡ before

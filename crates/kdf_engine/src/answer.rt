@@ -1,6 +1,6 @@
 //! What a call answers, and the text that it hands out.
 ghost use Rattle.std.specs.Prelude.{◌≡◌, ◌≢◌, ◌≤◌, ◌<◌, [], Option, Some, true, IfOk, drop, length, map, string_bytes, take};
-ghost use Rattle.kdf_theory.specs.Shown.{Shown};
+ghost use Rattle.kdf_theory.specs.MachineView.{MachineView};
 ghost use Rattle.kdf_top.specs.Answers.{IsCalledFor, IsDoneBy, IsDueFor};
 ghost use Rattle.kdf_command.specs.Commands.{command, is_command};
 ghost use Rattle.kdf_engine.specs.Answered.{IsAnswered};
@@ -86,7 +86,7 @@ fn text_due(alloc: Global, words: &[String], job: &[u8]) -> Result<(Status, Vec<
     ensures write { IfOk result (λ r. r.0 ≢ Status.WriteFault) }
     ensures memory { IfOk result (λ r. r.0 ≢ Status.Memory) }
     ensures due { IfOk result (λ r. IsDueFor exchanged (map string_bytes words.now) job.now r.1.items) }
-    ensures done { IfOk result (λ r. r.0 ≡ Status.Done → (kept : Option Shown)
+    ensures done { IfOk result (λ r. r.0 ≡ Status.Done → (kept : Option MachineView)
         × IsDoneBy exchanged (command (map string_bytes words.now)) job.now kept (Some []) (Some r.1.items)) }
 {
     let bytes = Vec::from_slice(alloc, job)?;

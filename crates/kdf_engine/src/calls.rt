@@ -1,10 +1,10 @@
 //! The calls that the library exports.
 ghost use Rattle.std.specs.Prelude.{◌≡◌, ◌≢◌, ◌≤◌, ◌<◌, [], List, ℕ, Option, Some, true, drop, length, take};
-ghost use Rattle.kdf_theory.specs.Shown.{Shown};
+ghost use Rattle.kdf_theory.specs.MachineView.{MachineView};
 ghost use Rattle.kdf_top.specs.Answers.{Answers, IsCalledFor, IsDoneBy, IsDueFor};
 ghost use Rattle.kdf_top.specs.Codes.{code_of};
 ghost use Rattle.kdf_command.specs.Commands.{command, is_command};
-ghost use Rattle.kdf_top.specs.declared.status.Status.{Status as Given};
+ghost use Rattle.kdf_top.specs.declared.status.Status.{Status};
 ghost use Rattle.kdf_command.specs.declared.command.Command.TheVariants.{Run};
 ghost use Rattle.kdf_engine.specs.Service.{exchanged};
 ghost use Rattle.kdf_engine.specs.Told.{AreFacts};
@@ -28,7 +28,7 @@ pub extern "C" fn kdf9_run(
     size: &mut u64,
 ) -> u32
     // The answer is the one that the words and the job call for, unless the room is too small, or there was no memory.
-    ensures answer { (given : Given) × (result ≡ code_of given)
+    ensures answer { (given : Status) × (result ≡ code_of given)
         × Answers (IsCalledFor exchanged (words_in words.now) job.now) given ⊥ (length text.old < size.new) }
     ensures usage { is_command (words_in words.now) ≡ true → result ≢ code_of Status.Usage }
     ensures read { result ≢ code_of Status.ReadFault }
@@ -37,7 +37,7 @@ pub extern "C" fn kdf9_run(
     ensures due { result ≢ code_of Status.Memory → (due : List ℕ)
         × IsDueFor exchanged (words_in words.now) job.now due × (size.new ≡ length due)
         × (result ≢ code_of Status.WriteFault → take size.new text.new ≡ due) }
-    ensures done { result ≡ code_of Status.Done → (kept : Option Shown)
+    ensures done { result ≡ code_of Status.Done → (kept : Option MachineView)
         × IsDoneBy exchanged (command (words_in words.now)) job.now kept (Some []) (Some (take size.new text.new)) }
 
     // A room that is too small is told what is wanted.
@@ -72,7 +72,7 @@ pub extern "C" fn kdf9_facts(
     size: &mut u64,
 ) -> u32
     // The answer to `run` is the one that the job calls for, unless the room is too small, or there was no memory.
-    ensures answer { command (words_in words.now) ≡ Some Run → (given : Given) × (result ≡ code_of given)
+    ensures answer { command (words_in words.now) ≡ Some Run → (given : Status) × (result ≡ code_of given)
         × Answers (IsCalledFor exchanged (words_in words.now) job.now) given ⊥ (length text.old < size.new) }
     ensures usage { is_command (words_in words.now) ≡ true → result ≢ code_of Status.Usage }
     ensures read { result ≢ code_of Status.ReadFault }

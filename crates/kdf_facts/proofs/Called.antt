@@ -1,7 +1,7 @@
 -- What a job calls for, by its length, its first fault, and the first of its decks.
 use Rattle.std.proofs.Common.{◌≡◌, ℕ, ◌<◌, ◌≤◌, List, length, Option, Some, None, refl, sym, ap, ◌∙◌}
 use Rattle.std.proofs.lemmas.Bool.{lt-ltb, le-ltb}
-use Rattle.kdf_job.specs.Job.{Job}
+use Rattle.kdf_job.specs.Job.{ShownJob}
 use Rattle.kdf_job.specs.Reading.{job, job_fault}
 use Rattle.kdf_job.specs.declared.fault.JobFault.{JobFault}
 use Rattle.kdf_top.specs.Answers.{or_decks, status_of_decks}
@@ -22,8 +22,8 @@ pub called_fault : (bytes : List ℕ) (fault : JobFault) (line : ℕ) → length
 called_fault bytes fault line few is =
     ap (λ (o : Option (JobFault × ℕ)). or_decks (status_of_line o) (deck_fault (job bytes).slots)) (sym is) ∙ called_short bytes few
 
-pub called_decks : (bytes : List ℕ) (j : Job) → length bytes ≤ job_limit → job_fault bytes ≡ None → j ≡ job bytes
+pub called_decks : (bytes : List ℕ) (j : ShownJob) → length bytes ≤ job_limit → job_fault bytes ≡ None → j ≡ job bytes
     → status_of_decks (deck_fault j.slots) ≡ called_over bytes
 called_decks bytes j few none is =
-    ap (λ (k : Job). status_of_decks (deck_fault k.slots)) is
+    ap (λ (k : ShownJob). status_of_decks (deck_fault k.slots)) is
     ∙ (ap (λ (o : Option (JobFault × ℕ)). or_decks (status_of_line o) (deck_fault (job bytes).slots)) (sym none) ∙ called_short bytes few)

@@ -44,8 +44,8 @@ deck_named name n slot place =
 
 -- a fault of a job, and its line
 abbrev pub job_front : JobFault → ℕ → List ℕ
-job_front fault line = job_opening ++ job_named (job.name_of fault) (number_of_job fault) line
+job_front fault line = job_opening ++ job_named (job.job_fault_name fault) (number_of_job fault) line
 
 -- a fault of the deck of a slot, and its place in the deck
 abbrev pub deck_front : ℕ → DeckFault → ℕ → List ℕ
-deck_front slot fault place = deck_opening ++ deck_named (deck.name_of fault) (deck.number_of fault) slot place
+deck_front slot fault place = deck_opening ++ deck_named (deck.deck_fault_name fault) (deck.number_of fault) slot place

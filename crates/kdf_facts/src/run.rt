@@ -5,7 +5,7 @@ ghost use Rattle.kdf_facts.specs.Run.{IsRunTold, TellsRun, between, opening, run
 ghost use Rattle.kdf_job.specs.Shows.{shown_job, shown_slot};
 ghost use Rattle.kdf_job.specs.WellFormed.{IsJob};
 ghost use Rattle.kdf_job.specs.declared.job.TheConstants.{TEXT_LIMIT};
-ghost use Rattle.kdf_job.specs.Job.{SlotJob as Slot};
+ghost use Rattle.kdf_job.specs.Job.{ShownSlot};
 ghost use Rattle.kdf_journal.specs.Counts.{calls};
 ghost use Rattle.kdf_report.specs.MadeFrom.{HasProgram};
 ghost use Rattle.kdf_service.specs.Rules.{IsService};
@@ -26,8 +26,8 @@ use kdf_listing::{Deck, lay_out};
 use kdf_place::Image;
 use kdf_service::Service;
 use kdf_trace::{
-    Past, Retrace, Story, World, keep_last, looks_for, orders_of_live, write_asks, write_flights,
-    write_holds, write_loans,
+    Backdrop, Past, Retrace, Story, keep_last, looks_for, orders_of_live, write_asks,
+    write_flights, write_holds, write_loans,
 };
 use std::alloc::{AllocError, Global};
 use std::fmt::Write;
@@ -78,7 +78,7 @@ pub fn told_by<F: Fn(u64) -> u64>(
 {
     let decks = decks_of(alloc, loaded.bytes, &loaded.job.slots)?;
     let (pasts, live) = keep_last(alloc, pasts, orders_of_live(machine))?;
-    let world = World {
+    let world = Backdrop {
         decks: &decks,
         pool: &loaded.job.pool,
         live,
@@ -130,7 +130,7 @@ fn write_between(out: &mut String) -> Result<(), AllocError>
 
 /// The numbers of the slots of a job.
 fn numbers_of(alloc: Global, slots: &[SlotJob]) -> Result<Vec<u8>, AllocError>
-    ensures { IfOk result (λ numbers. numbers.items ≡ map (λ (s : Slot). s.p) (map shown_slot slots.now)) }
+    ensures { IfOk result (λ numbers. numbers.items ≡ map (λ (s : ShownSlot). s.p) (map shown_slot slots.now)) }
 {
     let mut numbers = Vec::new(alloc);
     for slot in slots {
@@ -162,7 +162,7 @@ fn story_of<F: Fn(u64) -> u64>(
     alloc: Global,
     loaded: Loaded<'_>,
     journal: &Journal,
-    world: World<'_, '_>,
+    world: Backdrop<'_, '_>,
     pasts: Vec<Past>,
     service: &Service<F>,
 ) -> Result<(Story, Account), AllocError>
@@ -186,7 +186,7 @@ fn go_through<F: Fn(u64) -> u64>(
     alloc: Global,
     retrace: &mut Retrace,
     journal: &Journal,
-    world: World<'_, '_>,
+    world: Backdrop<'_, '_>,
     pasts: Vec<Past>,
     service: &Service<F>,
 ) -> Result<(Story, Account), AllocError>

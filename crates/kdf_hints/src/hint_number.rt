@@ -39,7 +39,7 @@ fn largest_in(alloc: Global, text: &[u8]) -> Result<Option<u64>, AllocError> {
     let mut previous = 0;
     for (i, byte) in text.iter().enumerate() {
         if is_begin(previous, *byte) {
-            let number = Place::at(text, count_of(i));
+            let number = NumberInText::at(text, count_of(i));
             if !number.is_wrong(alloc, 1)? {
                 return Ok(Some(number.largest(alloc)?));
             }
@@ -56,17 +56,17 @@ fn is_begin(previous: u8, byte: u8) -> bool {
 
 /// A number in a statement: what stands before it, the number, and what stands after it.
 #[derive(Clone, Copy)]
-struct Place<'a> {
+struct NumberInText<'a> {
     before: &'a [u8],
     number: u64,
     after: &'a [u8],
 }
 
-impl<'a> Place<'a> {
+impl<'a> NumberInText<'a> {
     /// The number that begins at a place of a text.
-    fn at(text: &'a [u8], i: u32) -> Place<'a> {
+    fn at(text: &'a [u8], i: u32) -> NumberInText<'a> {
         let rest = from(text, i);
-        Place {
+        NumberInText {
             before: before(text, i),
             number: number_of(rest),
             after: from(rest, digits_of(rest)),

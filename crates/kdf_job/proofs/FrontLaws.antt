@@ -8,9 +8,9 @@ use Rattle.kdf_text.specs.Lines.{lines}
 use Rattle.kdf_text.specs.Text.{text}
 use Rattle.kdf_text.proofs.Cutting.{some-lines}
 use Rattle.kdf_job.specs.declared.fault.JobFault.{JobFault}
-use Rattle.kdf_job.specs.declared.place.Place.{Place}
-use Rattle.kdf_job.specs.declared.place.Place.TheVariants.{First, BehindEnd}
-use Rattle.kdf_job.specs.Draft.{Draft, blank}
+use Rattle.kdf_job.specs.declared.line_place.LinePlace.{LinePlace}
+use Rattle.kdf_job.specs.declared.line_place.LinePlace.TheVariants.{First, BehindEnd}
+use Rattle.kdf_job.specs.Draft.{ShownDraft, blank}
 use Rattle.kdf_job.specs.Forms.{told_at}
 use Rattle.kdf_job.specs.Front.{front, front_fault, front_job, front_length, front_lines, is_behind_end, lines_to_end}
 use Rattle.kdf_job.specs.Reading.{at_line, behind_line, end_fault, fault_from, job, job_fault, read_line, with_told}
@@ -19,30 +19,30 @@ use Rattle.kdf_job.proofs.Fronts.{front_has, place_after, to_end_on}
 use Rattle.kdf_job.proofs.LineCuts.{cut_at, lines_append, text_lines}
 
 -- nothing is read after the job's end
-pub not_ended : (d e : Draft) (l : List ℕ) → read_line d l ≡ Ok e → is_behind_end d.place ≡ false
+pub not_ended : (d e : ShownDraft) (l : List ℕ) → read_line d l ≡ Ok e → is_behind_end d.place ≡ false
 unfolding read_line
 not_ended d e l h = here d.place h
   where
-    here : (place : Place) → with_told d (told_at place l) ≡ Ok e → is_behind_end place ≡ false
+    here : (place : LinePlace) → with_told d (told_at place l) ≡ Ok e → is_behind_end place ≡ false
     here BehindEnd h = absurd cc
     here _ h = refl
 
 -- lines without a fault are the front of whatever begins with them
-pub front_of : (n : ℕ) (d : Draft) (ls more : List (List ℕ)) → fault_from n d ls ≡ None → lines_to_end d.place (ls ++ more) ≡ ls
+pub front_of : (n : ℕ) (d : ShownDraft) (ls more : List (List ℕ)) → fault_from n d ls ≡ None → lines_to_end d.place (ls ++ more) ≡ ls
 front_of n d [] more none = ended d.place more none
   where
-    ended : (place : Place) (more : List (List ℕ)) → at_line n (end_fault place) ≡ None → lines_to_end place more ≡ []
+    ended : (place : LinePlace) (more : List (List ℕ)) → at_line n (end_fault place) ≡ None → lines_to_end place more ≡ []
     ended BehindEnd [] h = refl
     ended BehindEnd (l ∷ ls) h = refl
     ended _ more h = absurd cc
-front_of n d (l ∷ ls) more none = step (read_line d l) refl (λ (e : Draft). front_of (n + 1) e ls more) none
+front_of n d (l ∷ ls) more none = step (read_line d l) refl (λ (e : ShownDraft). front_of (n + 1) e ls more) none
   where
-    step : (r : Result Draft JobFault) → read_line d l ≡ r → ((e : Draft) → fault_from (n + 1) e ls ≡ None → lines_to_end e.place (ls ++ more) ≡ ls)
+    step : (r : Result ShownDraft JobFault) → read_line d l ≡ r → ((e : ShownDraft) → fault_from (n + 1) e ls ≡ None → lines_to_end e.place (ls ++ more) ≡ ls)
         → behind_line n r (λ e. fault_from (n + 1) e ls) ≡ None → lines_to_end d.place (l ∷ (ls ++ more)) ≡ l ∷ ls
     step (Err fault) is rest h = absurd cc
     step (Ok e) is rest h =
         to_end_on d.place l (ls ++ more) (not_ended d e l is)
-        ∙ ap (λ (place : Place). l ∷ lines_to_end place (ls ++ more)) (place_after d e l is)
+        ∙ ap (λ (place : LinePlace). l ∷ lines_to_end place (ls ++ more)) (place_after d e l is)
         ∙ ap (λ (x : List (List ℕ)). l ∷ x) (rest e h)
 
 all_front : (bytes : List ℕ) → job_fault bytes ≡ None → front_lines bytes ≡ lines bytes
@@ -88,26 +88,26 @@ front_before bytes follows none =
     ∙ take-append_seam job follows
 
 -- the first faulty line of a front is that of the text as a job
-front_first : (n : ℕ) (d : Draft) (ls : List (List ℕ)) (found : JobFault × ℕ) → fault_from n d (lines_to_end d.place ls) ≡ Some found
+front_first : (n : ℕ) (d : ShownDraft) (ls : List (List ℕ)) (found : JobFault × ℕ) → fault_from n d (lines_to_end d.place ls) ≡ Some found
     → fault_from n d ls ≡ Some found
 front_first n d [] found h = h
-front_first n d (l ∷ ls) found h = chosen (is_behind_end d.place) refl (λ (e : Draft). front_first (n + 1) e ls found) h
+front_first n d (l ∷ ls) found h = chosen (is_behind_end d.place) refl (λ (e : ShownDraft). front_first (n + 1) e ls found) h
   where
-    next : Place
+    next : LinePlace
     next = place_behind d.place (told_at d.place l)
 
-    ended : (place : Place) → is_behind_end place ≡ true → at_line n (end_fault place) ≡ None
+    ended : (place : LinePlace) → is_behind_end place ≡ true → at_line n (end_fault place) ≡ None
     ended BehindEnd h = refl
     ended _ h = absurd cc
 
-    step : (r : Result Draft JobFault) → read_line d l ≡ r
-        → ((e : Draft) → fault_from (n + 1) e (lines_to_end e.place ls) ≡ Some found → fault_from (n + 1) e ls ≡ Some found)
+    step : (r : Result ShownDraft JobFault) → read_line d l ≡ r
+        → ((e : ShownDraft) → fault_from (n + 1) e (lines_to_end e.place ls) ≡ Some found → fault_from (n + 1) e ls ≡ Some found)
         → behind_line n r (λ e. fault_from (n + 1) e (lines_to_end next ls)) ≡ Some found → behind_line n r (λ e. fault_from (n + 1) e ls) ≡ Some found
     step (Err fault) is rest h = h
-    step (Ok e) is rest h = rest e (subst (λ (place : Place). fault_from (n + 1) e (lines_to_end place ls) ≡ Some found) (place_after d e l is) h)
+    step (Ok e) is rest h = rest e (subst (λ (place : LinePlace). fault_from (n + 1) e (lines_to_end place ls) ≡ Some found) (place_after d e l is) h)
 
     chosen : (b : Bool) → is_behind_end d.place ≡ b
-        → ((e : Draft) → fault_from (n + 1) e (lines_to_end e.place ls) ≡ Some found → fault_from (n + 1) e ls ≡ Some found)
+        → ((e : ShownDraft) → fault_from (n + 1) e (lines_to_end e.place ls) ≡ Some found → fault_from (n + 1) e ls ≡ Some found)
         → fault_from n d (cond b [] (l ∷ lines_to_end next ls)) ≡ Some found → fault_from n d (l ∷ ls) ≡ Some found
     chosen true is rest h = let e = ended d.place is in absurd cc
     chosen false is rest h = step (read_line d l) refl rest h

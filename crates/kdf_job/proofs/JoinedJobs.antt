@@ -10,11 +10,11 @@ use Rattle.kdf_schedule.specs.declared.event.EventFault.TheVariants as fault_of_
 use Rattle.kdf_schedule.specs.Events.{event}
 use Rattle.kdf_job.specs.declared.fault.JobFault.{JobFault}
 use Rattle.kdf_job.specs.declared.fault.JobFault.TheVariants.{BadLine}
-use Rattle.kdf_job.specs.declared.place.Place.{Place}
-use Rattle.kdf_job.specs.declared.place.Place.TheVariants.{InSchedule, BehindEnd}
-use Rattle.kdf_job.specs.Draft.{SlotDraft, Draft, blank, event_fault, job_of, slot_of, with_line, with_pool}
+use Rattle.kdf_job.specs.declared.line_place.LinePlace.{LinePlace}
+use Rattle.kdf_job.specs.declared.line_place.LinePlace.TheVariants.{InSchedule, BehindEnd}
+use Rattle.kdf_job.specs.Draft.{ShownSlotDraft, ShownDraft, blank, event_fault, job_of, slot_of, with_line, with_pool}
 use Rattle.kdf_job.specs.Forms.{AnEndJob, AnEvent, first_told, of_event, told_at}
-use Rattle.kdf_job.specs.Job.{Job}
+use Rattle.kdf_job.specs.Job.{ShownJob}
 use Rattle.kdf_job.specs.More.{events_in, joined, more_events, more_fault, one_event, scheduled}
 use Rattle.kdf_job.specs.Reading.{at_line, behind_line, draft_of, end_fault, fault_from, job, job_fault, or_fault, or_same, read_line, with_told}
 use Rattle.kdf_job.proofs.ScheduleLines.{IsInSchedule, same_end, same_slot}
@@ -23,16 +23,16 @@ a_fault : (x : JobFault × ℕ) → Some x ≡ None → ⊥
 a_fault x h = cc
 
 -- lines that are read, and more after them
-told_through : (d : Draft) (ls more : List (List ℕ)) → draft_of d (ls ++ more) ≡ draft_of (draft_of d ls) more
+told_through : (d : ShownDraft) (ls more : List (List ℕ)) → draft_of d (ls ++ more) ≡ draft_of (draft_of d ls) more
 told_through d [] more = refl
 told_through d (l ∷ ls) more = told_through (or_same d (read_line d l)) ls more
 
-read_through : (n : ℕ) (d : Draft) (ls others more : List (List ℕ)) → fault_from n d (ls ++ others) ≡ None
+read_through : (n : ℕ) (d : ShownDraft) (ls others more : List (List ℕ)) → fault_from n d (ls ++ others) ≡ None
     → fault_from n d (ls ++ more) ≡ fault_from (n + length ls) (draft_of d ls) more
 read_through n d [] others more none = let e : n ≡ n + 0 = omega arith in ap (λ (m : ℕ). fault_from m d more) e
-read_through n d (l ∷ ls) others more none = step (read_line d l) (λ (e : Draft). read_through (n + 1) e ls others more) none
+read_through n d (l ∷ ls) others more none = step (read_line d l) (λ (e : ShownDraft). read_through (n + 1) e ls others more) none
   where
-    step : (r : Result Draft JobFault) → ((e : Draft) → fault_from (n + 1) e (ls ++ others) ≡ None
+    step : (r : Result ShownDraft JobFault) → ((e : ShownDraft) → fault_from (n + 1) e (ls ++ others) ≡ None
         → fault_from (n + 1) e (ls ++ more) ≡ fault_from (n + 1 + length ls) (draft_of e ls) more)
         → behind_line n r (λ e. fault_from (n + 1) e (ls ++ others)) ≡ None
         → behind_line n r (λ e. fault_from (n + 1) e (ls ++ more)) ≡ fault_from (n + length (l ∷ ls)) (draft_of (or_same d r) ls) more
@@ -40,34 +40,34 @@ read_through n d (l ∷ ls) others more none = step (read_line d l) (λ (e : Dra
     step (Ok e) rest h = let m : n + 1 + length ls ≡ n + length (l ∷ ls) = omega arith in rest e h ∙ ap (λ (m : ℕ). fault_from m (draft_of e ls) more) m
 
 -- a line after the end of a job
-after_end : (n : ℕ) (d : Draft) (l : List ℕ) (ls : List (List ℕ)) → d.place ≡ BehindEnd → fault_from n d (l ∷ ls) ≡ Some (BadLine, n)
+after_end : (n : ℕ) (d : ShownDraft) (l : List ℕ) (ls : List (List ℕ)) → d.place ≡ BehindEnd → fault_from n d (l ∷ ls) ≡ Some (BadLine, n)
 unfolding read_line
-after_end n d l ls at = ap (λ (place : Place). behind_line n (with_told d (told_at place l)) (λ e. fault_from (n + 1) e ls)) at
+after_end n d l ls at = ap (λ (place : LinePlace). behind_line n (with_told d (told_at place l)) (λ e. fault_from (n + 1) e ls)) at
 
-in_place : (n : ℕ) (d : Draft) (l : List ℕ) (ls : List (List ℕ)) → d.place ≡ InSchedule
+in_place : (n : ℕ) (d : ShownDraft) (l : List ℕ) (ls : List (List ℕ)) → d.place ≡ InSchedule
     → fault_from n d (l ∷ ls) ≡ behind_line n (with_told d (told_at InSchedule l)) (λ e. fault_from (n + 1) e ls)
 unfolding read_line
-in_place n d l ls at = ap (λ (place : Place). behind_line n (with_told d (told_at place l)) (λ e. fault_from (n + 1) e ls)) at
+in_place n d l ls at = ap (λ (place : LinePlace). behind_line n (with_told d (told_at place l)) (λ e. fault_from (n + 1) e ls)) at
 
 -- lines of a schedule ask for nothing but its events
-pub as_scheduled : (n : ℕ) (place : Place) (d : Draft) (ls : List (List ℕ)) → d.place ≡ place → IsInSchedule place
+pub as_scheduled : (n : ℕ) (place : LinePlace) (d : ShownDraft) (ls : List (List ℕ)) → d.place ≡ place → IsInSchedule place
     → fault_from n d ls ≡ fault_from n (scheduled place d.events) ls
-as_scheduled n place d [] at s = ap (λ (x : Place). at_line n (end_fault x)) at
+as_scheduled n place d [] at s = ap (λ (x : LinePlace). at_line n (end_fault x)) at
 as_scheduled n BehindEnd d (l ∷ ls) at s = after_end n d l ls at ∙ sym (after_end n (scheduled BehindEnd d.events) l ls refl)
 as_scheduled n InSchedule d (l ∷ ls) at s =
     in_place n d l ls at
-    ∙ by_event (event l) (is_text (codes "ENDJOB") l) (λ (x : Place) (e : Draft). as_scheduled (n + 1) x e ls)
+    ∙ by_event (event l) (is_text (codes "ENDJOB") l) (λ (x : LinePlace) (e : ShownDraft). as_scheduled (n + 1) x e ls)
     ∙ sym (in_place n (scheduled InSchedule d.events) l ls refl)
   where
     by_fault : (what : Event) (f : Option JobFault)
-        → ((x : Place) (e : Draft) → e.place ≡ x → IsInSchedule x → fault_from (n + 1) e ls ≡ fault_from (n + 1) (scheduled x e.events) ls)
+        → ((x : LinePlace) (e : ShownDraft) → e.place ≡ x → IsInSchedule x → fault_from (n + 1) e ls ≡ fault_from (n + 1) (scheduled x e.events) ls)
         → behind_line n (or_fault (AnEvent what) d f) (λ e. fault_from (n + 1) e ls) ≡ behind_line n
         (or_fault (AnEvent what) (scheduled InSchedule d.events) f) (λ e. fault_from (n + 1) e ls)
     by_fault what (Some f) rest = refl
     by_fault what None rest = rest InSchedule (with_line (AnEvent what) d) refl (tt {0})
 
     by_event : (r : Result Event EventFault) (b : Bool)
-        → ((x : Place) (e : Draft) → e.place ≡ x → IsInSchedule x → fault_from (n + 1) e ls ≡ fault_from (n + 1) (scheduled x e.events) ls)
+        → ((x : LinePlace) (e : ShownDraft) → e.place ≡ x → IsInSchedule x → fault_from (n + 1) e ls ≡ fault_from (n + 1) (scheduled x e.events) ls)
         → behind_line n (with_told d (first_told (of_event r ∷ cond b (Some (Ok AnEndJob)) None ∷ []))) (λ e. fault_from (n + 1) e ls)
         ≡ behind_line n (with_told (scheduled InSchedule d.events) (first_told (of_event r ∷ cond b (Some (Ok AnEndJob)) None ∷ [])))
         (λ e. fault_from (n + 1) e ls)
@@ -78,34 +78,34 @@ as_scheduled n InSchedule d (l ∷ ls) at s =
 as_scheduled n _ d (l ∷ ls) at s = absurd s
 
 -- the job of a draft with this slot and these events
-abbrev job_with : Draft → Option SlotDraft → List Event → Job
+abbrev job_with : ShownDraft → Option ShownSlotDraft → List Event → ShownJob
 job_with d slot events = record { slots = map (with_pool d.pool) (d.slots ++ option_to_list (option_map slot_of slot)); events = events; pool = d.pool }
 
-in_place_told : (d : Draft) (l : List ℕ) (ls : List (List ℕ)) → d.place ≡ InSchedule
+in_place_told : (d : ShownDraft) (l : List ℕ) (ls : List (List ℕ)) → d.place ≡ InSchedule
     → draft_of d (l ∷ ls) ≡ draft_of (or_same d (with_told d (told_at InSchedule l))) ls
 unfolding read_line
-in_place_told d l ls at = ap (λ (place : Place). draft_of (or_same d (with_told d (told_at place l))) ls) at
+in_place_told d l ls at = ap (λ (place : LinePlace). draft_of (or_same d (with_told d (told_at place l))) ls) at
 
 -- lines of a schedule without a fault tell their events, and nothing else
-pub told_joined : (n : ℕ) (place : Place) (d : Draft) (ls : List (List ℕ)) → d.place ≡ place → IsInSchedule place → fault_from n d ls ≡ None
+pub told_joined : (n : ℕ) (place : LinePlace) (d : ShownDraft) (ls : List (List ℕ)) → d.place ≡ place → IsInSchedule place → fault_from n d ls ≡ None
     → job_of (draft_of d ls) ≡ joined (job_of d) (events_in ls)
 told_joined n place d [] at s none = ap (job_with d d.slot) (sym (append-nil d.events))
 told_joined n BehindEnd d (l ∷ ls) at s none = absurd (a_fault _ (sym (after_end n d l ls at) ∙ none))
 told_joined n InSchedule d (l ∷ ls) at s none =
     ap job_of (in_place_told d l ls at)
-    ∙ by_event (event l) (is_text (codes "ENDJOB") l) (λ (x : Place) (e : Draft). told_joined (n + 1) x e ls) (sym (in_place n d l ls at) ∙ none)
+    ∙ by_event (event l) (is_text (codes "ENDJOB") l) (λ (x : LinePlace) (e : ShownDraft). told_joined (n + 1) x e ls) (sym (in_place n d l ls at) ∙ none)
   where
-    by_fault : (what : Event) (f : Option JobFault) → ((x : Place) (e : Draft) → e.place ≡ x → IsInSchedule x → fault_from (n + 1) e ls ≡ None
+    by_fault : (what : Event) (f : Option JobFault) → ((x : LinePlace) (e : ShownDraft) → e.place ≡ x → IsInSchedule x → fault_from (n + 1) e ls ≡ None
         → job_of (draft_of e ls) ≡ joined (job_of e) (events_in ls))
         → behind_line n (or_fault (AnEvent what) d f) (λ e. fault_from (n + 1) e ls) ≡ None
         → job_of (draft_of (or_same d (or_fault (AnEvent what) d f)) ls) ≡ joined (job_of d) (what ∷ events_in ls)
     by_fault what (Some f) rest h = absurd (a_fault _ h)
     by_fault what None rest h =
         rest InSchedule (with_line (AnEvent what) d) refl (tt {0}) h
-        ∙ ap (λ (o : Option SlotDraft). job_with d o ((d.events ++ what ∷ []) ++ events_in ls)) (same_slot what d.slot)
+        ∙ ap (λ (o : Option ShownSlotDraft). job_with d o ((d.events ++ what ∷ []) ++ events_in ls)) (same_slot what d.slot)
         ∙ ap (job_with d d.slot) (append_assoc d.events (what ∷ []) (events_in ls))
 
-    by_event : (r : Result Event EventFault) (b : Bool) → ((x : Place) (e : Draft) → e.place ≡ x → IsInSchedule x → fault_from (n + 1) e ls ≡ None
+    by_event : (r : Result Event EventFault) (b : Bool) → ((x : LinePlace) (e : ShownDraft) → e.place ≡ x → IsInSchedule x → fault_from (n + 1) e ls ≡ None
         → job_of (draft_of e ls) ≡ joined (job_of e) (events_in ls))
         → behind_line n (with_told d (first_told (of_event r ∷ cond b (Some (Ok AnEndJob)) None ∷ []))) (λ e. fault_from (n + 1) e ls) ≡ None
         → job_of (draft_of (or_same d (with_told d (first_told (of_event r ∷ cond b (Some (Ok AnEndJob)) None ∷ [])))) ls) ≡ joined (job_of d)
@@ -114,16 +114,16 @@ told_joined n InSchedule d (l ∷ ls) at s none =
     by_event (Err fault_of_event.Number) b rest h = absurd (a_fault _ h)
     by_event (Err fault_of_event.Form) false rest h = absurd (a_fault _ h)
     by_event (Err fault_of_event.Form) true rest h =
-        rest BehindEnd (with_line AnEndJob d) refl (tt {0}) h ∙ ap (λ (o : Option SlotDraft). job_with d o (d.events ++ events_in ls)) (same_end d.slot)
+        rest BehindEnd (with_line AnEndJob d) refl (tt {0}) h ∙ ap (λ (o : Option ShownSlotDraft). job_with d o (d.events ++ events_in ls)) (same_end d.slot)
 told_joined n _ d (l ∷ ls) at s none = absurd s
 
 -- the line `ENDJOB` ends a job in its schedule alone
-ends_there : (n : ℕ) (place : Place) (d : Draft) → d.place ≡ place → fault_from n d (codes "ENDJOB" ∷ []) ≡ None → place ≡ InSchedule
+ends_there : (n : ℕ) (place : LinePlace) (d : ShownDraft) → d.place ≡ place → fault_from n d (codes "ENDJOB" ∷ []) ≡ None → place ≡ InSchedule
 unfolding read_line words event
 ends_there n place d at none =
-    here place (sym (ap (λ (x : Place). behind_line n (with_told d (told_at x (codes "ENDJOB"))) (λ e. at_line (n + 1) (end_fault e.place))) at) ∙ none)
+    here place (sym (ap (λ (x : LinePlace). behind_line n (with_told d (told_at x (codes "ENDJOB"))) (λ e. at_line (n + 1) (end_fault e.place))) at) ∙ none)
   where
-    here : (x : Place) → behind_line n (with_told d (told_at x (codes "ENDJOB"))) (λ e. at_line (n + 1) (end_fault e.place)) ≡ None → x ≡ InSchedule
+    here : (x : LinePlace) → behind_line n (with_told d (told_at x (codes "ENDJOB"))) (λ e. at_line (n + 1) (end_fault e.place)) ≡ None → x ≡ InSchedule
     here InSchedule h = refl
     here _ h = absurd (a_fault _ h)
 
@@ -152,7 +152,7 @@ before one ls are none =
     ∙ ap job_of (told_through blank ls end)
     ∙ told_joined (1 + length ls) InSchedule d end at (tt {0}) left
     ∙ ap (joined (job_of d)) no_event in
-    record { at = at; job_is = is; events_are = ap (λ (j : Job). j.events) is ∙ append-nil d.events }
+    record { at = at; job_is = is; events_are = ap (λ (j : ShownJob). j.events) is ∙ append-nil d.events }
 
 pub joined_fault : (one other more : List ℕ) (ls : List (List ℕ)) → lines one ≡ ls ++ codes "ENDJOB" ∷ [] → job_fault one ≡ None
     → lines other ≡ ls ++ lines more
@@ -182,5 +182,5 @@ joined_job one other more ls are none others faultless =
     ap (λ (x : List (List ℕ)). job_of (draft_of blank x)) others
     ∙ ap job_of (told_through blank ls (lines more))
     ∙ told_joined (1 + length ls) InSchedule d (lines more) b.at (tt {0}) left
-    ∙ sym (ap (λ (j : Job). joined j (events_in (lines more))) b.job_is ∙ ap (λ (es : List Event). job_with d d.slot (es ++ events_in (lines more)))
+    ∙ sym (ap (λ (j : ShownJob). joined j (events_in (lines more))) b.job_is ∙ ap (λ (es : List Event). job_with d d.slot (es ++ events_in (lines more)))
     (append-nil d.events))

@@ -8,8 +8,8 @@ use Rattle.std.proofs.lemmas.Bool.{cases_eq, eq-eqb, ne_eqb}
 use Rattle.std.proofs.lemmas.List.{map-append}
 use Rattle.std.proofs.lemmas.List.Concat.{flat_map-cons}
 use Rattle.kdf_journal.specs.declared.kind.Kind.{Kind}
-use Rattle.kdf_job.specs.Draft.{numbers_in, numbers_of}
-use Rattle.kdf_job.specs.Job.{JobDevice, SlotJob}
+use Rattle.kdf_job.specs.Draft.{pool_numbers, numbers_of}
+use Rattle.kdf_job.specs.Job.{JobDevice, ShownSlot}
 use Rattle.kdf_job.specs.Slots.{lent_kind, numbered}
 
 -- ---- a number in a list
@@ -66,13 +66,13 @@ not_again n d (m ∷ ns) is other =
     or_false (eqb m d) (has ns d) (ne_eqb m d ne) (not_again n d ns is other.1)
 
 -- a number of the first part is none of the second
-pub apart : (ms ns : List ℕ) (d : ℕ) → IsDistinct nat_eq (ms ++ ns) → has ms d ≡ true → has ns d ≡ false
+pub not_in_both : (ms ns : List ℕ) (d : ℕ) → IsDistinct nat_eq (ms ++ ns) → has ms d ≡ true → has ns d ≡ false
 unfolding IsDistinct
-apart [] ns d is it = cc
-apart (m ∷ ms) ns d is it =
+not_in_both [] ns d is it = cc
+not_in_both (m ∷ ms) ns d is it =
     ⊎_elim
     (λ (same : m ≡ d). not_again m d ns same (right_of (λ y. nat_eq m y ≡ false) ms ns is.0))
-    (λ (other : m ≢ d). apart ms ns d is.1 (sym (ap (λ b. b || has ms d) (ne_eqb m d other)) ∙ it))
+    (λ (other : m ≢ d). not_in_both ms ns d is.1 (sym (ap (λ b. b || has ms d) (ne_eqb m d other)) ∙ it))
     (cases_eq m d)
 
 -- and the second part has no number twice either
@@ -99,21 +99,21 @@ pub found : (devices : List JobDevice) (d : ℕ) → is_some (numbered devices d
 found [] d = refl
 found (x ∷ devices) d = some_or (eqb x.d d) x (numbered devices d) ∙ ap (λ b. eqb x.d d || b) (found devices d)
 
-found_lent : (pool : List (ℕ × Kind)) (d : ℕ) → is_some (find (λ (x : ℕ × Kind). eqb x.0 d) pool) ≡ has (numbers_in pool) d
+found_lent : (pool : List (ℕ × Kind)) (d : ℕ) → is_some (find (λ (x : ℕ × Kind). eqb x.0 d) pool) ≡ has (pool_numbers pool) d
 found_lent [] d = refl
 found_lent (x ∷ pool) d = some_or (eqb x.0 d) x (find (λ (y : ℕ × Kind). eqb y.0 d) pool) ∙ ap (λ b. eqb x.0 d || b) (found_lent pool d)
 
 -- so with the pool's
-pub lent : (pool : List (ℕ × Kind)) (d : ℕ) → is_some (lent_kind pool d) ≡ has (numbers_in pool) d
+pub lent : (pool : List (ℕ × Kind)) (d : ℕ) → is_some (lent_kind pool d) ≡ has (pool_numbers pool) d
 lent pool d = some_map (λ (x : ℕ × Kind). x.1) (find (λ (x : ℕ × Kind). eqb x.0 d) pool) ∙ found_lent pool d
 
-pub numbers_cons : (s : SlotJob) (slots : List SlotJob) → numbers_of (s ∷ slots) ≡ ds s.devices ++ numbers_of slots
+pub numbers_cons : (s : ShownSlot) (slots : List ShownSlot) → numbers_of (s ∷ slots) ≡ ds s.devices ++ numbers_of slots
 numbers_cons s slots =
-    ap ds (flat_map-cons (λ (t : SlotJob). t.devices) s slots)
-    ∙ map-append (λ (x : JobDevice). x.d) s.devices (flat_map (λ (t : SlotJob). t.devices) slots)
+    ap ds (flat_map-cons (λ (t : ShownSlot). t.devices) s slots)
+    ∙ map-append (λ (x : JobDevice). x.d) s.devices (flat_map (λ (t : ShownSlot). t.devices) slots)
 
 -- a number of one slot is one of all
-pub in_slots : (slots : List SlotJob) (k : ℕ) (x : SlotJob) (d : ℕ) → k < length slots → has (ds (get_or slots k x).devices) d ≡ true
+pub in_slots : (slots : List ShownSlot) (k : ℕ) (x : ShownSlot) (d : ℕ) → k < length slots → has (ds (get_or slots k x).devices) d ≡ true
     → has (numbers_of slots) d ≡ true
 in_slots [] k x d lt is = absurd (omega arith)
 in_slots (s ∷ slots) zero x d lt is = ap (λ ns. has ns d) (numbers_cons s slots) ∙ has_left (ds s.devices) (numbers_of slots) d is

@@ -6,14 +6,14 @@ use Rattle.kdf_text.specs.declared.lines.Lines.{Lines}
 use Rattle.kdf_text.specs.Ahead.{ahead}
 use Rattle.kdf_text.specs.Lines.{in_first, line, lines}
 use Rattle.kdf_text.proofs.Cutting.{some-lines, no-lines}
-use Rattle.kdf_job.specs.declared.draft.Draft.{Draft as ReadDraft}
+use Rattle.kdf_job.specs.declared.draft.Draft.{Draft}
 use Rattle.kdf_job.specs.declared.fault.JobError.{JobError}
 use Rattle.kdf_job.specs.declared.fault.JobError.TheVariants.{Fault, Memory}
 use Rattle.kdf_job.specs.declared.fault.JobFault.{JobFault}
 use Rattle.kdf_job.specs.declared.line_error.LineError.{LineError}
 use Rattle.kdf_job.specs.declared.line_error.LineError.TheVariants as line_error
 use Rattle.kdf_job.specs.declared.job.TheConstants.{TEXT_LIMIT}
-use Rattle.kdf_job.specs.Draft.{Draft, blank, job_of}
+use Rattle.kdf_job.specs.Draft.{ShownDraft, blank, job_of}
 use Rattle.kdf_job.specs.Forms.{told_at}
 use Rattle.kdf_job.specs.Lengths.{weight}
 use Rattle.kdf_job.specs.Passes.{Passes, Reads, next_fault}
@@ -40,14 +40,15 @@ pub short_ahead : (at : Lines) → length (line (ahead at) 1) ≤ length at.rest
 short_ahead at = short_line at.rest.now
 
 -- a line that is read, whatever follows
-pub fault_on : (n n' : ℕ) (d e : Draft) (l : List ℕ) (ls : List (List ℕ)) → n' ≡ n + 1 → read_line d l ≡ Ok e → fault_from n d (l ∷ ls) ≡ fault_from n' e ls
-fault_on n n' d e l ls next read = ap (λ (r : Result Draft JobFault). behind_line n r (λ x. fault_from (n + 1) x ls)) read ∙ rw next refl
+pub fault_on : (n n' : ℕ) (d e : ShownDraft) (l : List ℕ) (ls : List (List ℕ)) → n' ≡ n + 1 → read_line d l ≡ Ok e
+    → fault_from n d (l ∷ ls) ≡ fault_from n' e ls
+fault_on n n' d e l ls next read = ap (λ (r : Result ShownDraft JobFault). behind_line n r (λ x. fault_from (n + 1) x ls)) read ∙ rw next refl
 
-pub told_on : (d e : Draft) (l : List ℕ) (ls : List (List ℕ)) → read_line d l ≡ Ok e → draft_of d (l ∷ ls) ≡ draft_of e ls
-told_on d e l ls read = ap (λ (r : Result Draft JobFault). draft_of (or_same d r) ls) read
+pub told_on : (d e : ShownDraft) (l : List ℕ) (ls : List (List ℕ)) → read_line d l ≡ Ok e → draft_of d (l ∷ ls) ≡ draft_of e ls
+told_on d e l ls read = ap (λ (r : Result ShownDraft JobFault). draft_of (or_same d r) ls) read
 
 -- a line that has a fault
-pub says_first : (e : JobError) (n : ℕ) (r : Result Draft JobFault) (follows : Draft → Option (JobFault × ℕ)) → Says e (behind_line n r (λ d. None))
+pub says_first : (e : JobError) (n : ℕ) (r : Result ShownDraft JobFault) (follows : ShownDraft → Option (JobFault × ℕ)) → Says e (behind_line n r (λ d. None))
     → Says e (behind_line n r follows)
 says_first (Fault fault m) n (Err found) follows h = h
 says_first (Fault fault m) n (Ok d) follows h = absurd cc
@@ -60,7 +61,7 @@ first_ahead (l ∷ ls) some = refl
 pub next_ahead : (at : Lines) → 0 < length at.rest.now → ahead at ≡ line (ahead at) 1 ∷ drop 1 (ahead at)
 next_ahead at some = first_ahead (ahead at) (some_ahead at.rest.now some)
 
-pub reads : (old new : Lines) (d e : Draft) (text : List ℕ) → text ≡ line (ahead old) 1 → 0 < length old.rest.now → ahead new ≡ drop 1 (ahead old)
+pub reads : (old new : Lines) (d e : ShownDraft) (text : List ℕ) → text ≡ line (ahead old) 1 → 0 < length old.rest.now → ahead new ≡ drop 1 (ahead old)
     → (0 < length (ahead old) → new.number ≡ old.number + 1) → with_told d (told_at d.place text) ≡ Ok e → Reads old d new e
 unfolding read_line
 reads old new d e text here some rest next is = record {
@@ -69,7 +70,7 @@ reads old new d e text here some rest next is = record {
   read = subst (λ (t : List ℕ). with_told d (told_at d.place t) ≡ Ok e) here is;
 }
 
-pub passes : (old new : Lines) (before after : ReadDraft) (text : List ℕ) → text ≡ line (ahead old) 1 → 0 < length old.rest.now → ahead new ≡ drop 1 (ahead old)
+pub passes : (old new : Lines) (before after : Draft) (text : List ℕ) → text ≡ line (ahead old) 1 → 0 < length old.rest.now → ahead new ≡ drop 1 (ahead old)
     → (0 < length (ahead old) → new.number ≡ old.number + 1) → (0 < length new.rest.now → length text + 1 + length new.rest.now ≤ length old.rest.now)
     → weight (shown_draft before) + length old.rest.now ≤ TEXT_LIMIT → Taken (told_at before.place text) (length text + 1) before after
     → Passes old before new after
@@ -79,11 +80,11 @@ passes old new before after text here some rest next within fits h = record {
   fits = λ more. let w = within more in let g = h.grown in omega arith;
 }
 
-pub stops : (old : Lines) (d : Draft) (text : List ℕ) (error : LineError) → text ≡ line (ahead old) 1 → IsRefused d (told_at d.place text) error
+pub stops : (old : Lines) (d : ShownDraft) (text : List ℕ) (error : LineError) → text ≡ line (ahead old) 1 → IsRefused d (told_at d.place text) error
     → Says (at_number old.number error) (next_fault old d)
 unfolding read_line
 stops old d text (line_error.Fault fault) here h =
-    ap (λ (r : Result Draft JobFault). behind_line old.number r (λ e. None)) (subst (λ (t : List ℕ). with_told d (told_at d.place t) ≡ Err fault) here h)
+    ap (λ (r : Result ShownDraft JobFault). behind_line old.number r (λ e. None)) (subst (λ (t : List ℕ). with_told d (told_at d.place t) ≡ Err fault) here h)
 stops old d text line_error.Memory here h = tt {0}
 
 -- the lines so far and those ahead are all
@@ -100,30 +101,30 @@ pub none_ahead : (at : Lines) → eqb (length at.rest.now) 0 ≡ true → length
 none_ahead at none = ap (λ (ls : List (List ℕ)). length ls) (no-lines at.rest.now none)
 
 -- what comes of the lines from here is what comes of all
-pub passed_fault : (old new : Lines) (d e : Draft) → Reads old d new e → fault_from old.number d (ahead old) ≡ fault_from new.number e (ahead new)
+pub passed_fault : (old new : Lines) (d e : ShownDraft) → Reads old d new e → fault_from old.number d (ahead old) ≡ fault_from new.number e (ahead new)
 passed_fault old new d e p = ap (fault_from old.number d) p.here ∙ fault_on old.number new.number d e (line (ahead old) 1) (ahead new) p.next p.read
 
-pub passed_job : (old new : Lines) (d e : Draft) → Reads old d new e → draft_of d (ahead old) ≡ draft_of e (ahead new)
+pub passed_job : (old new : Lines) (d e : ShownDraft) → Reads old d new e → draft_of d (ahead old) ≡ draft_of e (ahead new)
 passed_job old new d e p = ap (draft_of d) p.here ∙ told_on d e (line (ahead old) 1) (ahead new) p.read
 
-pub stopped : (at : Lines) (d : Draft) (e : JobError) → 0 < length at.rest.now → Says e (next_fault at d) → Says e (fault_from at.number d (ahead at))
+pub stopped : (at : Lines) (d : ShownDraft) (e : JobError) → 0 < length at.rest.now → Says e (next_fault at d) → Says e (fault_from at.number d (ahead at))
 stopped at d e some h =
     let rest = drop 1 (ahead at) in
     subst (λ (ls : List (List ℕ)). Says e (fault_from at.number d ls)) (sym (next_ahead at some))
     (says_first e at.number (read_line d (line (ahead at) 1)) (λ x. fault_from (at.number + 1) x rest) h)
 
 -- the lines of a job, and its end
-pub job_read : (bytes : List ℕ) (at : Lines) (d : Draft) → fault_from 1 blank (lines bytes) ≡ fault_from at.number d (ahead at)
+pub job_read : (bytes : List ℕ) (at : Lines) (d : ShownDraft) → fault_from 1 blank (lines bytes) ≡ fault_from at.number d (ahead at)
     → job_fault bytes ≡ fault_from at.number d (ahead at)
 unfolding job_fault
 job_read bytes at d e = e
 
-pub fault_ends : (bytes : List ℕ) (at : Lines) (d : Draft) → fault_from 1 blank (lines bytes) ≡ fault_from at.number d (ahead at)
+pub fault_ends : (bytes : List ℕ) (at : Lines) (d : ShownDraft) → fault_from 1 blank (lines bytes) ≡ fault_from at.number d (ahead at)
     → eqb (length at.rest.now) 0 ≡ true
     → job_fault bytes ≡ at_line at.number (end_fault d.place)
 fault_ends bytes at d e none = job_read bytes at d e ∙ ap (fault_from at.number d) (no-lines at.rest.now none)
 
-pub job_ends : (bytes : List ℕ) (at : Lines) (d : Draft) → draft_of blank (lines bytes) ≡ draft_of d (ahead at) → eqb (length at.rest.now) 0 ≡ true
+pub job_ends : (bytes : List ℕ) (at : Lines) (d : ShownDraft) → draft_of blank (lines bytes) ≡ draft_of d (ahead at) → eqb (length at.rest.now) 0 ≡ true
     → job bytes ≡ job_of d
 unfolding job
 job_ends bytes at d e none = ap job_of (e ∙ ap (draft_of d) (no-lines at.rest.now none))

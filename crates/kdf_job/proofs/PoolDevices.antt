@@ -7,13 +7,14 @@ use Rattle.std.proofs.lemmas.List.{map-append}
 use Rattle.std.proofs.lemmas.List.Elements.{All-push}
 use Rattle.kdf_journal.specs.declared.kind.Kind.{Kind}
 use Rattle.kdf_journal.specs.declared.kind.Kind.TheVariants.{Tr, Tp, Cr, Lp, Mt}
-use Rattle.kdf_job.specs.declared.draft.Draft.{Draft as ReadDraft}
+use Rattle.kdf_job.specs.declared.draft.Draft.{Draft}
 use Rattle.kdf_job.specs.declared.fault.JobFault.{JobFault}
 use Rattle.kdf_job.specs.declared.fault.JobFault.TheVariants.{BadLabel, DeviceTwice, PoolKind}
-use Rattle.kdf_job.specs.Draft.{SlotDraft, Draft, fault_of, is_writer, lent_fault, numbers_in, numbers_of, numbers_told, slot_of, slots_told, tells, with_line}
+use Rattle.kdf_job.specs.Draft.{ShownSlotDraft, ShownDraft, fault_of, is_writer, lent_fault, pool_numbers, numbers_of, numbers_told, slot_of, slots_told, tells}
+use Rattle.kdf_job.specs.Draft.{with_line}
 use Rattle.kdf_job.specs.Draft.{words_in}
 use Rattle.kdf_job.specs.Forms.{APoolDevice}
-use Rattle.kdf_job.specs.Job.{SlotJob}
+use Rattle.kdf_job.specs.Job.{ShownSlot}
 use Rattle.kdf_job.specs.Kept.{AreTold, IsBegun, IsKept}
 use Rattle.kdf_job.specs.Lengths.{kept_length}
 use Rattle.kdf_job.specs.Media.{is_label}
@@ -40,21 +41,21 @@ a_writer Cr label h = absurd cc
 a_writer Mt label h = no_tape (is_label label) h
 
 -- it changes no slot
-untouched : (n : ℕ) (kind : Kind) (label : List ℕ) (o : Option SlotDraft) → option_map (tells (APoolDevice n kind label)) o ≡ o
+untouched : (n : ℕ) (kind : Kind) (label : List ℕ) (o : Option ShownSlotDraft) → option_map (tells (APoolDevice n kind label)) o ≡ o
 untouched n kind label None = refl
 untouched n kind label (Some s) = refl
 
-lent_kept : (words : ℕ) (numbers : List ℕ) (d : Draft) (n : ℕ) (kind : Kind) (label : List ℕ) → IsKept words numbers d → is_some d.slot ≡ true → n ≤ 15
+lent_kept : (words : ℕ) (numbers : List ℕ) (d : ShownDraft) (n : ℕ) (kind : Kind) (label : List ℕ) → IsKept words numbers d → is_some d.slot ≡ true → n ≤ 15
     → list_any (nat_eq n) (numbers_told d) ≡ false → is_writer kind ≡ true → IsKept words (numbers ++ n ∷ []) (with_line (APoolDevice n kind label) d)
 lent_kept words numbers d n kind label was there few free writer =
     let e = with_line (APoolDevice n kind label) d in
     let slot : e.slot ≡ d.slot = untouched n kind label d.slot in
-    let same : slots_told e ≡ slots_told d = ap (λ (o : Option SlotDraft). d.slots ++ option_to_list (option_map slot_of o)) slot in
+    let same : slots_told e ≡ slots_told d = ap (λ (o : Option ShownSlotDraft). d.slots ++ option_to_list (option_map slot_of o)) slot in
     let pool : List (ℕ × Kind) = d.pool ++ (n, kind) ∷ [] in
     let more : numbers_told d ++ n ∷ [] ≡ numbers_told e =
-    append_assoc (numbers_of (slots_told d)) (numbers_in d.pool) (n ∷ [])
+    append_assoc (numbers_of (slots_told d)) (pool_numbers d.pool) (n ∷ [])
     ∙ ap (λ (ns : List ℕ). numbers_of (slots_told d) ++ ns) (sym (map-append (λ (x : ℕ × Kind). x.0) d.pool ((n, kind) ∷ [])))
-    ∙ ap (λ (ss : List SlotJob). numbers_of ss ++ numbers_in pool) (sym same) in
+    ∙ ap (λ (ss : List ShownSlot). numbers_of ss ++ pool_numbers pool) (sym same) in
     record {
       sum = was.sum ∙ ap words_in (sym same);
       all = ap (λ (ns : List ℕ). ns ++ n ∷ []) was.all ∙ more;
@@ -67,7 +68,7 @@ lent_kept words numbers d n kind label was there few free writer =
       untold = tt {0};
     }
 
-pub lent_takes : (n : ℕ) (kind : Kind) (label : List ℕ) (old new : ReadDraft) → IsSound old → is_some (shown_draft old).slot ≡ true → n ≤ 15
+pub lent_takes : (n : ℕ) (kind : Kind) (label : List ℕ) (old new : Draft) → IsSound old → is_some (shown_draft old).slot ≡ true → n ≤ 15
     → fault_of (APoolDevice n kind label) (shown_draft old) ≡ None → shown_draft new ≡ with_line (APoolDevice n kind label) (shown_draft old)
     → new.words ≡ old.words
     → new.numbers.items ≡ old.numbers.items ++ n ∷ [] → Taken (Ok (APoolDevice n kind label)) 1 old new

@@ -9,10 +9,10 @@ use Rattle.kdf_schedule.specs.declared.event.EventFault.{EventFault}
 use Rattle.kdf_schedule.specs.declared.event.EventFault.TheVariants as event_fault
 use Rattle.kdf_schedule.specs.Events.{event}
 use Rattle.kdf_job.specs.declared.fault.JobFault.{JobFault}
-use Rattle.kdf_job.specs.declared.place.Place.{Place}
-use Rattle.kdf_job.specs.declared.place.Place.TheVariants.{First, BehindPool, InSchedule, BehindEnd}
-use Rattle.kdf_job.specs.Draft.{Draft, blank, fault_of, pool_with, with_line}
-use Rattle.kdf_job.specs.Forms.{Form, APool, APoolDevice, ASchedule, AnEndJob, behind, first_told, of_event, told_at}
+use Rattle.kdf_job.specs.declared.line_place.LinePlace.{LinePlace}
+use Rattle.kdf_job.specs.declared.line_place.LinePlace.TheVariants.{First, BehindPool, InSchedule, BehindEnd}
+use Rattle.kdf_job.specs.Draft.{ShownDraft, blank, fault_of, pool_with, with_line}
+use Rattle.kdf_job.specs.Forms.{Form, APool, APoolDevice, ASchedule, AnEndJob, next_place, first_told, of_event, told_at}
 use Rattle.kdf_job.specs.Reading.{behind_line, draft_of, fault_from, job_fault, or_fault, or_same, read_line, with_told}
 use Rattle.kdf_job.specs.SlotLines.{closes, opens, place_behind, pool_from, pool_lines, rest_of_pool}
 use Rattle.kdf_job.proofs.StoreLines.{IsInPool, IsPoolTold, pool_tells, pools_only}
@@ -23,10 +23,10 @@ abbrev lent_by : Result Form JobFault → List (ℕ × Kind)
 lent_by (Ok (APoolDevice n kind label)) = (n, kind) ∷ []
 lent_by _ = []
 
-abbrev lent_on : Place → Result Form JobFault → (Place → List (ℕ × Kind)) → List (ℕ × Kind)
+abbrev lent_on : LinePlace → Result Form JobFault → (LinePlace → List (ℕ × Kind)) → List (ℕ × Kind)
 lent_on place r follows = lent_by r ++ follows (place_behind place r)
 
-abbrev lent_from : Place → List (List ℕ) → List (ℕ × Kind)
+abbrev lent_from : LinePlace → List (List ℕ) → List (ℕ × Kind)
 lent_from place [] = []
 lent_from place (line ∷ ls) = lent_on place (told_at place line) (λ at. lent_from at ls)
 
@@ -35,21 +35,22 @@ pool_split (APoolDevice n kind label) pool = refl
 pool_split form pool = sym (append-nil pool)
 
 -- lines without a fault tell these
-told_pool : (n : ℕ) (d : Draft) (ls : List (List ℕ)) → fault_from n d ls ≡ None → (draft_of d ls).pool ≡ d.pool ++ lent_from d.place ls
+told_pool : (n : ℕ) (d : ShownDraft) (ls : List (List ℕ)) → fault_from n d ls ≡ None → (draft_of d ls).pool ≡ d.pool ++ lent_from d.place ls
 unfolding read_line
 told_pool n d [] none = sym (append-nil d.pool)
-told_pool n d (line ∷ ls) none = step (told_at d.place line) (λ (e : Draft). told_pool (n + 1) e ls) none
+told_pool n d (line ∷ ls) none = step (told_at d.place line) (λ (e : ShownDraft). told_pool (n + 1) e ls) none
   where
-    taken : (form : Form) (fault : Option JobFault) → ((e : Draft) → fault_from (n + 1) e ls ≡ None → (draft_of e ls).pool ≡ e.pool ++ lent_from e.place ls)
+    taken : (form : Form) (fault : Option JobFault)
+        → ((e : ShownDraft) → fault_from (n + 1) e ls ≡ None → (draft_of e ls).pool ≡ e.pool ++ lent_from e.place ls)
         → behind_line n (or_fault form d fault) (λ e. fault_from (n + 1) e ls) ≡ None
-        → (draft_of (or_same d (or_fault form d fault)) ls).pool ≡ d.pool ++ (lent_by (Ok form) ++ lent_from (behind form) ls)
+        → (draft_of (or_same d (or_fault form d fault)) ls).pool ≡ d.pool ++ (lent_by (Ok form) ++ lent_from (next_place form) ls)
     taken form (Some fault) rest none = absurd cc
     taken form None rest none =
         rest (with_line form d) none
-        ∙ ap (λ (xs : List (ℕ × Kind)). xs ++ lent_from (behind form) ls) (pool_split form d.pool)
-        ∙ append_assoc d.pool (lent_by (Ok form)) (lent_from (behind form) ls)
+        ∙ ap (λ (xs : List (ℕ × Kind)). xs ++ lent_from (next_place form) ls) (pool_split form d.pool)
+        ∙ append_assoc d.pool (lent_by (Ok form)) (lent_from (next_place form) ls)
 
-    step : (r : Result Form JobFault) → ((e : Draft) → fault_from (n + 1) e ls ≡ None → (draft_of e ls).pool ≡ e.pool ++ lent_from e.place ls)
+    step : (r : Result Form JobFault) → ((e : ShownDraft) → fault_from (n + 1) e ls ≡ None → (draft_of e ls).pool ≡ e.pool ++ lent_from e.place ls)
         → behind_line n (with_told d r) (λ e. fault_from (n + 1) e ls) ≡ None
         → (draft_of (or_same d (with_told d r)) ls).pool ≡ d.pool ++ lent_on d.place r (λ at. lent_from at ls)
     step (Err fault) rest none = absurd cc
@@ -93,16 +94,16 @@ inside (line ∷ ls) = step (told_at BehindPool line) refl (pool_tells line) (in
     step (Ok form) e is rest = absurd is
 
 -- before the pool
-outside : (place : Place) (ls : List (List ℕ)) → (IsInPool place → ⊥) → lent_from place ls ≡ lent_of_lines (pool_from place ls)
+outside : (place : LinePlace) (ls : List (List ℕ)) → (IsInPool place → ⊥) → lent_from place ls ≡ lent_of_lines (pool_from place ls)
 outside place [] away = refl
-outside place (line ∷ ls) away = step (told_at place line) refl (λ (at : Place). outside at ls)
+outside place (line ∷ ls) away = step (told_at place line) refl (λ (at : LinePlace). outside at ls)
   where
-    step : (r : Result Form JobFault) → told_at place line ≡ r → ((at : Place) → (IsInPool at → ⊥) → lent_from at ls ≡ lent_of_lines (pool_from at ls))
+    step : (r : Result Form JobFault) → told_at place line ≡ r → ((at : LinePlace) → (IsInPool at → ⊥) → lent_from at ls ≡ lent_of_lines (pool_from at ls))
         → lent_on place r (λ at. lent_from at ls) ≡ lent_of_lines (cond (opens r) (line ∷ rest_of_pool ls) (pool_from (place_behind place r) ls))
     step (Err fault) e rest = rest place away
     step (Ok APool) e rest = inside ls
     step (Ok (APoolDevice n kind label)) e rest = absurd (away (pools_only place line n kind label e))
-    step (Ok form) e rest = rest (behind form) (λ no. no)
+    step (Ok form) e rest = rest (next_place form) (λ no. no)
 
 pub pool_told : (bytes : List ℕ) → job_fault bytes ≡ None → (draft_of blank (lines bytes)).pool ≡ lent_of_lines (pool_lines bytes)
 unfolding job_fault pool_lines

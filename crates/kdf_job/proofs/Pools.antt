@@ -4,31 +4,31 @@ use Rattle.std.specs.Prelude.{fold, nat_eq}
 use Rattle.std.specs.List.{All, IsDistinct, flat_map}
 use Rattle.std.proofs.lemmas.List.Elements.{All-map}
 use Rattle.kdf_journal.specs.declared.kind.Kind.{Kind}
-use Rattle.kdf_job.specs.Job.{JobDevice, SlotJob}
-use Rattle.kdf_job.specs.Draft.{numbers_in, numbers_of, with_pool, words_in}
+use Rattle.kdf_job.specs.Job.{JobDevice, ShownSlot}
+use Rattle.kdf_job.specs.Draft.{pool_numbers, numbers_of, with_pool, words_in}
 use Rattle.kdf_job.specs.Kept.{AreTold}
 use Rattle.kdf_job.specs.WellFormed.{AreRising, AreSlots, IsLent, IsSlot}
 use Rattle.kdf_job.proofs.Slots.{ds, ps}
 
 -- the pool changes nothing else of a slot
-same_devices : (pool : List (ℕ × Kind)) (slots : List SlotJob) → flat_map (λ (s : SlotJob). s.devices) (map (with_pool pool) slots)
-    ≡ flat_map (λ (s : SlotJob). s.devices) slots
+same_devices : (pool : List (ℕ × Kind)) (slots : List ShownSlot) → flat_map (λ (s : ShownSlot). s.devices) (map (with_pool pool) slots)
+    ≡ flat_map (λ (s : ShownSlot). s.devices) slots
 same_devices pool [] = refl
 same_devices pool (s ∷ slots) = ap (λ (xs : List JobDevice). s.devices ++ xs) (same_devices pool slots)
 
-same_numbers : (pool : List (ℕ × Kind)) (slots : List SlotJob) → numbers_of (map (with_pool pool) slots) ≡ numbers_of slots
+same_numbers : (pool : List (ℕ × Kind)) (slots : List ShownSlot) → numbers_of (map (with_pool pool) slots) ≡ numbers_of slots
 same_numbers pool slots = ap (λ (xs : List JobDevice). ds xs) (same_devices pool slots)
 
-same_places : (pool : List (ℕ × Kind)) (slots : List SlotJob) → ps (map (with_pool pool) slots) ≡ ps slots
+same_places : (pool : List (ℕ × Kind)) (slots : List ShownSlot) → ps (map (with_pool pool) slots) ≡ ps slots
 same_places pool [] = refl
 same_places pool (s ∷ slots) = ap (λ (xs : List ℕ). s.p ∷ xs) (same_places pool slots)
 
-same_words : (pool : List (ℕ × Kind)) (n : ℕ) (slots : List SlotJob) → fold (λ (a : ℕ) (s : SlotJob). a + s.size) n (map (with_pool pool) slots)
-    ≡ fold (λ (a : ℕ) (s : SlotJob). a + s.size) n slots
+same_words : (pool : List (ℕ × Kind)) (n : ℕ) (slots : List ShownSlot) → fold (λ (a : ℕ) (s : ShownSlot). a + s.size) n (map (with_pool pool) slots)
+    ≡ fold (λ (a : ℕ) (s : ShownSlot). a + s.size) n slots
 same_words pool n [] = refl
 same_words pool n (s ∷ slots) = same_words pool (n + s.size) slots
 
-is_slot : (pool : List (ℕ × Kind)) (s : SlotJob) → All (λ (x : ℕ × Kind). IsLent x) pool → IsSlot s → IsSlot (with_pool pool s)
+is_slot : (pool : List (ℕ × Kind)) (s : ShownSlot) → All (λ (x : ℕ × Kind). IsLent x) pool → IsSlot s → IsSlot (with_pool pool s)
 is_slot pool s lent was = record {
   number = was.number;
   least = was.least;
@@ -40,11 +40,11 @@ is_slot pool s lent was = record {
   lent = lent;
 }
 
-pub shared : (pool : List (ℕ × Kind)) (slots : List SlotJob) → All (λ (s : SlotJob). s.pool ≡ pool) (map (with_pool pool) slots)
-shared pool slots = All-map (λ (s : SlotJob). s.pool ≡ pool) (with_pool pool) slots (λ k d lt. refl)
+pub shared : (pool : List (ℕ × Kind)) (slots : List ShownSlot) → All (λ (s : ShownSlot). s.pool ≡ pool) (map (with_pool pool) slots)
+shared pool slots = All-map (λ (s : ShownSlot). s.pool ≡ pool) (with_pool pool) slots (λ k d lt. refl)
 
-pub are_slots : (pool : List (ℕ × Kind)) (slots : List SlotJob) → AreTold slots → All (λ (x : ℕ × Kind). IsLent x) pool
-    → IsDistinct nat_eq (numbers_of slots ++ numbers_in pool)
+pub are_slots : (pool : List (ℕ × Kind)) (slots : List ShownSlot) → AreTold slots → All (λ (x : ℕ × Kind). IsLent x) pool
+    → IsDistinct nat_eq (numbers_of slots ++ pool_numbers pool)
     → AreSlots (map (with_pool pool) slots)
 are_slots pool slots told lent owned =
     let all = shared pool slots in
@@ -55,6 +55,6 @@ are_slots pool slots told lent owned =
       fits = let e : words_in (map (with_pool pool) slots) ≡ words_in slots = same_words pool 0 slots in let f = told.fits in omega arith;
       apart = subst (IsDistinct nat_eq) (sym numbers) told.apart;
       common = λ i j d lt within. all i d (omega arith) ∙ sym (all j d within);
-      owned = λ k d lt. subst (λ (xs : List (ℕ × Kind)). IsDistinct nat_eq (numbers_of (map (with_pool pool) slots) ++ numbers_in xs)) (sym (all k d lt))
-          (subst (λ (ns : List ℕ). IsDistinct nat_eq (ns ++ numbers_in pool)) (sym numbers) owned);
+      owned = λ k d lt. subst (λ (xs : List (ℕ × Kind)). IsDistinct nat_eq (numbers_of (map (with_pool pool) slots) ++ pool_numbers xs)) (sym (all k d lt))
+          (subst (λ (ns : List ℕ). IsDistinct nat_eq (ns ++ pool_numbers pool)) (sym numbers) owned);
     }

@@ -6,20 +6,21 @@ use Rattle.std.specs.List.{All, IsDistinct, list_any}
 use Rattle.std.proofs.lemmas.Bool.Decides.{nat_tests}
 use Rattle.std.proofs.Math.Seq.{get_or-append_seam}
 use Rattle.kdf_journal.specs.declared.kind.Kind.{Kind}
-use Rattle.kdf_job.specs.declared.place.Place.{Place}
-use Rattle.kdf_job.specs.declared.place.Place.TheVariants.{BehindPool, InSchedule, BehindEnd}
-use Rattle.kdf_job.specs.Job.{SlotJob}
-use Rattle.kdf_job.specs.Draft.{SlotDraft, Draft, all_devices, new_slot, numbers_in, numbers_of, numbers_told, slot_fault, slot_of, slots_told, words_in}
+use Rattle.kdf_job.specs.declared.line_place.LinePlace.{LinePlace}
+use Rattle.kdf_job.specs.declared.line_place.LinePlace.TheVariants.{BehindPool, InSchedule, BehindEnd}
+use Rattle.kdf_job.specs.Job.{ShownSlot}
+use Rattle.kdf_job.specs.Draft.{ShownSlotDraft, ShownDraft, all_devices, new_slot, pool_numbers, numbers_of, numbers_told, slot_fault, slot_of, slots_told}
+use Rattle.kdf_job.specs.Draft.{words_in}
 use Rattle.kdf_job.specs.Kept.{AreTold, IsBegun, IsKept, IsPlaced, IsUntold}
 use Rattle.kdf_job.specs.WellFormed.{IsLent, IsSchedule, IsSlot}
 use Rattle.kdf_job.proofs.Slots.{apart_more, ds, numbers_last, numbers_more, numbers_same, slots_changed, slots_first, slots_more, words_last}
 use Rattle.kdf_job.specs.Limits.{most_words, most_words_together}
 
 -- while the pool is empty
-pub told_alone : (d : Draft) → d.pool ≡ [] → numbers_told d ≡ numbers_of (slots_told d)
-told_alone d none = ap (λ (pool : List (ℕ × Kind)). numbers_of (slots_told d) ++ numbers_in pool) none ∙ append-nil (numbers_of (slots_told d))
+pub told_alone : (d : ShownDraft) → d.pool ≡ [] → numbers_told d ≡ numbers_of (slots_told d)
+told_alone d none = ap (λ (pool : List (ℕ × Kind)). numbers_of (slots_told d) ++ pool_numbers pool) none ∙ append-nil (numbers_of (slots_told d))
 
-none_untold : (place : Place) (pool : List (ℕ × Kind)) → pool ≡ [] → IsUntold place pool
+none_untold : (place : LinePlace) (pool : List (ℕ × Kind)) → pool ≡ [] → IsUntold place pool
 none_untold BehindPool pool none = tt {0}
 none_untold InSchedule pool none = tt {0}
 none_untold BehindEnd pool none = tt {0}
@@ -28,11 +29,12 @@ none_untold place pool none = none
 none_lent : (pool : List (ℕ × Kind)) → pool ≡ [] → All (λ (x : ℕ × Kind). IsLent x) pool
 none_lent pool none = subst (λ (xs : List (ℕ × Kind)). All (λ (x : ℕ × Kind). IsLent x) xs) (sym none) (λ k d lt. absurd (omega arith))
 
-none_owned : (d : Draft) → d.pool ≡ [] → AreTold (slots_told d) → IsDistinct nat_eq (numbers_told d)
+none_owned : (d : ShownDraft) → d.pool ≡ [] → AreTold (slots_told d) → IsDistinct nat_eq (numbers_told d)
 none_owned d none told = subst (IsDistinct nat_eq) (sym (told_alone d none)) told.apart
 
 -- the slot in which the line stands is another, with the same devices
-pub slot_told : (words : ℕ) (numbers : List ℕ) (d e : Draft) (s t : SlotDraft) → IsKept words numbers d → d.pool ≡ [] → e.pool ≡ [] → e.slots ≡ d.slots
+pub slot_told : (words : ℕ) (numbers : List ℕ) (d e : ShownDraft) (s t : ShownSlotDraft) → IsKept words numbers d → d.pool ≡ [] → e.pool ≡ []
+    → e.slots ≡ d.slots
     → d.slot ≡ Some s → e.slot ≡ Some t → e.events ≡ d.events
     → t.p ≡ s.p → t.size ≡ s.size → ds (all_devices t) ≡ ds (all_devices s) → IsSlot (slot_of t) → IsPlaced e.place e.slot → IsKept words numbers e
 slot_told words numbers d e s t was none still slots old new events p size same slot placed =
@@ -56,7 +58,8 @@ slot_told words numbers d e s t was none still slots old new events p size same 
     }
 
 -- and with a device more
-pub device_told : (words n : ℕ) (numbers : List ℕ) (d e : Draft) (s t : SlotDraft) → IsKept words numbers d → d.pool ≡ [] → e.pool ≡ [] → e.slots ≡ d.slots
+pub device_told : (words n : ℕ) (numbers : List ℕ) (d e : ShownDraft) (s t : ShownSlotDraft) → IsKept words numbers d → d.pool ≡ [] → e.pool ≡ []
+    → e.slots ≡ d.slots
     → d.slot ≡ Some s → e.slot ≡ Some t → e.events ≡ d.events
     → t.p ≡ s.p → t.size ≡ s.size → ds (all_devices t) ≡ ds (all_devices s) ++ n ∷ [] → list_any (nat_eq n) (numbers_of (slots_told d)) ≡ false
     → IsSlot (slot_of t) → IsPlaced e.place e.slot
@@ -67,7 +70,7 @@ device_told words n numbers d e s t was none still slots old new events p size m
     let sound : AreTold (d.slots ++ slot_of s ∷ []) = subst AreTold before was.slots in
     let ns : numbers_of (d.slots ++ slot_of t ∷ []) ≡ numbers_of (d.slots ++ slot_of s ∷ []) ++ n ∷ [] = numbers_more d.slots (slot_of s) (slot_of t) n more in
     let open_ : list_any (nat_eq n) (numbers_of (d.slots ++ slot_of s ∷ [])) ≡ false =
-    subst (λ (xs : List SlotJob). list_any (nat_eq n) (numbers_of xs) ≡ false) before free in
+    subst (λ (xs : List ShownSlot). list_any (nat_eq n) (numbers_of xs) ≡ false) before free in
     let told : AreTold (slots_told e) =
     subst AreTold (sym after) (slots_changed d.slots (slot_of s) (slot_of t) sound p size slot
     (subst (IsDistinct nat_eq) (sym ns) (apart_more _ n sound.apart open_))) in
@@ -98,7 +101,8 @@ new_is_slot p n few least most groups = record {
   lent = λ k d lt. absurd (omega arith);
 }
 
-begun_slots : (d : Draft) (slot : Option SlotDraft) (p n : ℕ) → d.slot ≡ slot → AreTold (slots_told d) → IsBegun d.slots d.slot → slot_fault p d.slot ≡ None
+begun_slots : (d : ShownDraft) (slot : Option ShownSlotDraft) (p n : ℕ) → d.slot ≡ slot → AreTold (slots_told d) → IsBegun d.slots d.slot
+    → slot_fault p d.slot ≡ None
     → p ≤ 3 → 32 ≤ n → n ≤ most_words
     → n % 32 ≡ 0 → words_in (slots_told d) + n ≤ most_words_together → AreTold (slots_told d ++ slot_of (new_slot p n) ∷ [])
 begun_slots d None p n is was begun above few least most groups fits =
@@ -110,7 +114,7 @@ begun_slots d (Some s) p n is was begun above few least most groups fits =
     rw after (slots_more d.slots (slot_of s) (slot_of (new_slot p n)) (subst AreTold after was) lt (new_is_slot p n few least most groups) refl
     (rw after at fits))
 
-pub store_told : (words p n : ℕ) (numbers : List ℕ) (d e : Draft) → IsKept words numbers d → d.pool ≡ [] → e.pool ≡ [] → e.slots ≡ slots_told d
+pub store_told : (words p n : ℕ) (numbers : List ℕ) (d e : ShownDraft) → IsKept words numbers d → d.pool ≡ [] → e.pool ≡ [] → e.slots ≡ slots_told d
     → e.slot ≡ Some (new_slot p n) → e.events ≡ d.events → slot_fault p d.slot ≡ None
     → p ≤ 3 → 32 ≤ n → n ≤ most_words → n % 32 ≡ 0 → words + n ≤ most_words_together → IsPlaced e.place e.slot → IsKept (words + n) numbers e
 store_told words p n numbers d e was none still slots new events above few least most groups fits placed =
@@ -131,7 +135,7 @@ store_told words p n numbers d e was none still slots new events above few least
     }
 
 -- the slot in which the line stands
-pub current_slot : (words : ℕ) (numbers : List ℕ) (d : Draft) (s : SlotDraft) → IsKept words numbers d → d.slot ≡ Some s → IsSlot (slot_of s)
+pub current_slot : (words : ℕ) (numbers : List ℕ) (d : ShownDraft) (s : ShownSlotDraft) → IsKept words numbers d → d.slot ≡ Some s → IsSlot (slot_of s)
 current_slot words numbers d s was is =
     let before : slots_told d ≡ d.slots ++ slot_of s ∷ [] = rw is refl in
     all_last IsSlot d.slots (slot_of s) (subst AreTold before was.slots).each

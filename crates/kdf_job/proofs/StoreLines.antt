@@ -11,24 +11,25 @@ use Rattle.kdf_schedule.specs.declared.event.EventFault.TheVariants as event_fau
 use Rattle.kdf_schedule.specs.Events.{event}
 use Rattle.kdf_job.specs.declared.fault.JobFault.{JobFault}
 use Rattle.kdf_job.specs.declared.fault.JobFault.TheVariants.{Header}
-use Rattle.kdf_job.specs.declared.place.Place.{Place}
-use Rattle.kdf_job.specs.declared.place.Place.TheVariants.{First, BehindHeader, BehindSlot, BehindStore, InDeck, BehindDeck, BehindService, BehindDevice}
-use Rattle.kdf_job.specs.declared.place.Place.TheVariants.{BehindShow, BehindPool, InSchedule, BehindEnd}
+use Rattle.kdf_job.specs.declared.line_place.LinePlace.{LinePlace}
+use Rattle.kdf_job.specs.declared.line_place.LinePlace.TheVariants.{First, BehindHeader, BehindSlot, BehindStore, InDeck, BehindDeck, BehindService}
+use Rattle.kdf_job.specs.declared.line_place.LinePlace.TheVariants.{BehindDevice}
+use Rattle.kdf_job.specs.declared.line_place.LinePlace.TheVariants.{BehindShow, BehindPool, InSchedule, BehindEnd}
 use Rattle.kdf_job.specs.Forms.{Form, AHeader, ASlot, AStore, ADeck, ADeckLine, AnEndDeck, AService, ADevice, AMedium, AShow, APool, APoolDevice, ASchedule}
 use Rattle.kdf_job.specs.Forms.{AnEvent, AnEndJob, Told, told, first_told, addresses, alone, described, device_named, device_or_end, device_words, device_line}
 use Rattle.kdf_job.specs.Forms.{kind_named, medium_line, no_medium, number_line, numbered, of_event, or_bad, pooled, service_or_device, show_line, slot_ends}
 use Rattle.kdf_job.specs.Forms.{slot_line, told_at}
 use Rattle.kdf_job.specs.Limits.{group, most_words}
 
-abbrev pub IsBehindSlot : Place → Type 0
+abbrev pub IsBehindSlot : LinePlace → Type 0
 IsBehindSlot (BehindSlot p) = Unit {0}
 IsBehindSlot _ = ⊥
 
-abbrev pub IsInPool : Place → Type 0
+abbrev pub IsInPool : LinePlace → Type 0
 IsInPool BehindPool = Unit {0}
 IsInPool _ = ⊥
 
-abbrev pub IsScheduled : Place → Type 0
+abbrev pub IsScheduled : LinePlace → Type 0
 IsScheduled InSchedule = Unit {0}
 IsScheduled _ = ⊥
 
@@ -112,7 +113,7 @@ service_none line = choice (is_text (codes "SERVICE") line) (Some (Ok AService))
 ends_none : (line : List ℕ) → AllTellNone (slot_ends line)
 ends_none line = (show_none line, (slot_none line, (pool_none line, (schedule_none line, tt {0}))))
 
-tells_none : (place : Place) (line : List ℕ) → (IsBehindSlot place → ⊥) → (IsInPool place → ⊥) → (IsScheduled place → ⊥) → TellsNone (told_at place line)
+tells_none : (place : LinePlace) (line : List ℕ) → (IsBehindSlot place → ⊥) → (IsInPool place → ⊥) → (IsScheduled place → ⊥) → TellsNone (told_at place line)
 tells_none First line away out before = either (is_text (codes "KDF9 JOB 1") line) (Ok AHeader) (Err Header) (tt {0}) (tt {0})
 tells_none BehindHeader line away out before = first_none (slot_line line ∷ []) (slot_none line, tt {0})
 tells_none (BehindSlot p) line away out before = absurd (away (tt {0}))
@@ -175,7 +176,7 @@ event_told (Err event_fault.Form) false = tt {0}
 schedule_tells : (line : List ℕ) → IsEventTold (told_at InSchedule line)
 schedule_tells line = event_told (event line) (is_text (codes "ENDJOB") line)
 
-pub stores_only : (place : Place) (line : List ℕ) (n : ℕ) → told_at place line ≡ Ok (AStore n) → IsBehindSlot place
+pub stores_only : (place : LinePlace) (line : List ℕ) (n : ℕ) → told_at place line ≡ Ok (AStore n) → IsBehindSlot place
 stores_only (BehindSlot p) line n e = tt {0}
 stores_only BehindPool line n e = subst IsPoolTold e (pool_tells line)
 stores_only First line n e = subst TellsNone e (tells_none First line (λ no. no) (λ no. no) (λ no. no))
@@ -189,7 +190,8 @@ stores_only BehindShow line n e = subst TellsNone e (tells_none BehindShow line 
 stores_only InSchedule line n e = subst IsEventTold e (schedule_tells line)
 stores_only BehindEnd line n e = subst TellsNone e (tells_none BehindEnd line (λ no. no) (λ no. no) (λ no. no))
 
-pub pools_only : (place : Place) (line : List ℕ) (n : ℕ) (kind : Kind) (label : List ℕ) → told_at place line ≡ Ok (APoolDevice n kind label) → IsInPool place
+pub pools_only : (place : LinePlace) (line : List ℕ) (n : ℕ) (kind : Kind) (label : List ℕ) → told_at place line ≡ Ok (APoolDevice n kind label)
+    → IsInPool place
 pools_only BehindPool line n kind label e = tt {0}
 pools_only (BehindSlot p) line n kind label e = subst IsStoreTold e (store_told (number_line (codes "STORE") group most_words (words line)))
 pools_only First line n kind label e = subst TellsNone e (tells_none First line (λ no. no) (λ no. no) (λ no. no))
@@ -203,7 +205,7 @@ pools_only BehindShow line n kind label e = subst TellsNone e (tells_none Behind
 pools_only InSchedule line n kind label e = subst IsEventTold e (schedule_tells line)
 pools_only BehindEnd line n kind label e = subst TellsNone e (tells_none BehindEnd line (λ no. no) (λ no. no) (λ no. no))
 
-pub ends_only : (place : Place) (line : List ℕ) → told_at place line ≡ Ok AnEndJob → IsScheduled place
+pub ends_only : (place : LinePlace) (line : List ℕ) → told_at place line ≡ Ok AnEndJob → IsScheduled place
 ends_only InSchedule line e = tt {0}
 ends_only (BehindSlot p) line e = subst IsStoreTold e (store_told (number_line (codes "STORE") group most_words (words line)))
 ends_only BehindPool line e = subst IsPoolTold e (pool_tells line)

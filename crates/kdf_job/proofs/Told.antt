@@ -13,17 +13,18 @@ use Rattle.kdf_tape.specs.Tape.{Recorded}
 use Rattle.kdf_word.specs.Characters.{words_of}
 use Rattle.kdf_journal.specs.declared.kind.Kind.{Kind}
 use Rattle.kdf_journal.specs.declared.kind.Kind.TheVariants.{Tr, Tp, Cr, Lp, Mt}
-use Rattle.kdf_job.specs.declared.draft.Draft.{Draft as ReadDraft}
+use Rattle.kdf_job.specs.declared.draft.Draft.{Draft}
 use Rattle.kdf_job.specs.declared.fault.JobFault.TheVariants.{BadMedium}
 use Rattle.kdf_job.specs.declared.line_error.LineError.{LineError}
 use Rattle.kdf_job.specs.declared.line_error.LineError.TheVariants.{Fault, Memory}
-use Rattle.kdf_job.specs.declared.place.Place.{Place}
-use Rattle.kdf_job.specs.declared.place.Place.TheVariants.{BehindSlot, InDeck}
+use Rattle.kdf_job.specs.declared.line_place.LinePlace.{LinePlace}
+use Rattle.kdf_job.specs.declared.line_place.LinePlace.TheVariants.{BehindSlot, InDeck}
 use Rattle.kdf_job.specs.Adding.{IsChecked}
-use Rattle.kdf_job.specs.Draft.{SlotDraft, Draft, all_devices, device_fault, fault_of, medium_fault, new_slot, number_at, numbers_told, show_fault, slots_told}
+use Rattle.kdf_job.specs.Draft.{ShownSlotDraft, ShownDraft, all_devices, device_fault, fault_of, medium_fault, new_slot, number_at, numbers_told, show_fault}
+use Rattle.kdf_job.specs.Draft.{slots_told}
 use Rattle.kdf_job.specs.Draft.{store_fault, tells, with_line, with_line_of_medium, words_in}
 use Rattle.kdf_job.specs.Forms.{Form, ADeckLine, ADevice, AMedium, AService, AShow, AStore, told_at}
-use Rattle.kdf_job.specs.Job.{JobDevice, SlotJob}
+use Rattle.kdf_job.specs.Job.{JobDevice, ShownSlot}
 use Rattle.kdf_job.specs.Kept.{IsKept, IsPlaced, IsUntold}
 use Rattle.kdf_job.specs.Lengths.{device_length, kept_length, medium_length, slot_length, spared, weight}
 use Rattle.kdf_media.specs.Media.{card_of}
@@ -37,7 +38,7 @@ use Rattle.kdf_job.proofs.Steps.{current_slot, device_told, slot_told, store_tol
 use Rattle.kdf_job.specs.Limits.{most_words, most_words_together}
 
 -- a form without a fault
-pub taken : (form : Form) (room : ℕ) (old new : ReadDraft) → fault_of form (shown_draft old) ≡ None → shown_draft new ≡ with_line form (shown_draft old)
+pub taken : (form : Form) (room : ℕ) (old new : Draft) → fault_of form (shown_draft old) ≡ None → shown_draft new ≡ with_line form (shown_draft old)
     → IsKept new.words new.numbers.items (with_line form (shown_draft old)) → weight (with_line form (shown_draft old)) ≤ weight (shown_draft old) + room
     → Taken (Ok form) room old new
 taken form room old new faultless is kept grown = record {
@@ -46,12 +47,12 @@ taken form room old new faultless is kept grown = record {
   grown = let e = ap weight is in omega arith;
 }
 
-pub some_slot : (o : Option SlotDraft) → is_some o ≡ true → (s : SlotDraft) × (o ≡ Some s)
+pub some_slot : (o : Option ShownSlotDraft) → is_some o ≡ true → (s : ShownSlotDraft) × (o ≡ Some s)
 some_slot None h = absurd cc
 some_slot (Some s) h = (s, refl)
 
 -- ---- `SHOW a b`
-show_kept : (words : ℕ) (numbers : List ℕ) (d : Draft) (s : SlotDraft) (a b : ℕ) → IsKept words numbers d → d.pool ≡ [] → d.slot ≡ Some s
+show_kept : (words : ℕ) (numbers : List ℕ) (d : ShownDraft) (s : ShownSlotDraft) (a b : ℕ) → IsKept words numbers d → d.pool ≡ [] → d.slot ≡ Some s
     → show_fault a b s.size ≡ None → IsKept words numbers (with_line (AShow a b) d)
 show_kept words numbers d s a b was none is faultless =
     let now = current_slot words numbers d s was is in
@@ -73,7 +74,7 @@ show_kept words numbers d s a b was none is faultless =
     show_range : (a b size : ℕ) → show_fault a b size ≡ None → IsShow size (a, b)
     show_range a b size h = grind (arith, nat_tests)
 
-pub show_takes : (a b : ℕ) (old new : ReadDraft) → IsSound old → (shown_draft old).pool ≡ [] → is_some (shown_draft old).slot ≡ true
+pub show_takes : (a b : ℕ) (old new : Draft) → IsSound old → (shown_draft old).pool ≡ [] → is_some (shown_draft old).slot ≡ true
     → fault_of (AShow a b) (shown_draft old) ≡ None
     → shown_draft new ≡ with_line (AShow a b) (shown_draft old) → new.words ≡ old.words → new.numbers.items ≡ old.numbers.items
     → Taken (Ok (AShow a b)) 1 old new
@@ -84,7 +85,7 @@ show_takes a b old new sound none there faultless shown words numbers =
     (let e = ap kept_length s.1 in let f = ap kept_length (ap (option_map (tells (AShow a b))) s.1) in omega arith)
 
 -- ---- a line of a deck
-deck_kept : (words : ℕ) (numbers : List ℕ) (d : Draft) (s : SlotDraft) (line : List ℕ) → IsKept words numbers d → d.pool ≡ [] → d.slot ≡ Some s
+deck_kept : (words : ℕ) (numbers : List ℕ) (d : ShownDraft) (s : ShownSlotDraft) (line : List ℕ) → IsKept words numbers d → d.pool ≡ [] → d.slot ≡ Some s
     → length s.deck + length line + 1 ≤ 268435456
     → IsKept words numbers (with_line (ADeckLine line) d)
 deck_kept words numbers d s line was none is fits =
@@ -106,12 +107,12 @@ deck_kept words numbers d s line was none is fits =
 pub deck_told : (line : List ℕ) → is_text (codes "ENDDECK") line ≡ false → told_at InDeck line ≡ Ok (ADeckLine line)
 deck_told line e = rw e refl
 
-pub deck_takes : (line : List ℕ) (old new : ReadDraft) → IsSound old → old.place ≡ InDeck → weight (shown_draft old) + length line ≤ 268435456
+pub deck_takes : (line : List ℕ) (old new : Draft) → IsSound old → old.place ≡ InDeck → weight (shown_draft old) + length line ≤ 268435456
     → shown_draft new ≡ with_line (ADeckLine line) (shown_draft old) → new.words ≡ old.words → new.numbers.items ≡ old.numbers.items
     → Taken (Ok (ADeckLine line)) (length line + 1) old new
 deck_takes line old new sound place fits shown words numbers =
-    let there : IsPlaced InDeck (shown_draft old).slot = subst (λ (x : Place). IsPlaced x (shown_draft old).slot) place sound.placed in
-    let none : (shown_draft old).pool ≡ [] = subst (λ (x : Place). IsUntold x (shown_draft old).pool) place sound.untold in
+    let there : IsPlaced InDeck (shown_draft old).slot = subst (λ (x : LinePlace). IsPlaced x (shown_draft old).slot) place sound.placed in
+    let none : (shown_draft old).pool ≡ [] = subst (λ (x : LinePlace). IsUntold x (shown_draft old).pool) place sound.untold in
     let s = some_slot (shown_draft old).slot there in
     let one : spared old.place ≡ 1 = ap spared place in
     let e : kept_length (shown_draft old).slot ≡ slot_length s.0 = ap kept_length s.1 in
@@ -123,7 +124,7 @@ deck_takes line old new sound place fits shown words numbers =
     (omega arith)
 
 -- ---- `SERVICE`
-service_kept : (words : ℕ) (numbers : List ℕ) (d : Draft) (s : SlotDraft) → IsKept words numbers d → d.pool ≡ [] → d.slot ≡ Some s
+service_kept : (words : ℕ) (numbers : List ℕ) (d : ShownDraft) (s : ShownSlotDraft) → IsKept words numbers d → d.pool ≡ [] → d.slot ≡ Some s
     → IsKept words numbers (with_line AService d)
 service_kept words numbers d s was none is =
     let now = current_slot words numbers d s was is in
@@ -140,7 +141,7 @@ service_kept words numbers d s was none is =
     })
     (rw is refl)
 
-pub service_takes : (old new : ReadDraft) → IsSound old → (shown_draft old).pool ≡ [] → is_some (shown_draft old).slot ≡ true
+pub service_takes : (old new : Draft) → IsSound old → (shown_draft old).pool ≡ [] → is_some (shown_draft old).slot ≡ true
     → shown_draft new ≡ with_line AService (shown_draft old)
     → new.words ≡ old.words → new.numbers.items ≡ old.numbers.items → Taken (Ok AService) 1 old new
 service_takes old new sound none there shown words numbers =
@@ -150,7 +151,7 @@ service_takes old new sound none there shown words numbers =
     (let e = ap kept_length s.1 in let f = ap kept_length (ap (option_map (tells AService)) s.1) in omega arith)
 
 -- ---- `DEVICE d k`
-device_kept : (words : ℕ) (numbers : List ℕ) (d : Draft) (s : SlotDraft) (n : ℕ) (kind : Kind) (label : List ℕ) → IsKept words numbers d → d.pool ≡ []
+device_kept : (words : ℕ) (numbers : List ℕ) (d : ShownDraft) (s : ShownSlotDraft) (n : ℕ) (kind : Kind) (label : List ℕ) → IsKept words numbers d → d.pool ≡ []
     → d.slot ≡ Some s → n ≤ 15
     → list_any (nat_eq n) (numbers_told d) ≡ false → IsKept words (numbers ++ n ∷ []) (with_line (ADevice n kind label) d)
 device_kept words numbers d s n kind label was none is few free =
@@ -172,10 +173,10 @@ device_kept words numbers d s n kind label was none is few free =
     })
     (rw is refl)
 
-device_free : (n : ℕ) (kind : Kind) (label : List ℕ) (d : Draft) → device_fault n kind label d ≡ None → list_any (nat_eq n) (numbers_told d) ≡ false
+device_free : (n : ℕ) (kind : Kind) (label : List ℕ) (d : ShownDraft) → device_fault n kind label d ≡ None → list_any (nat_eq n) (numbers_told d) ≡ false
 device_free n kind label d h = grind arith
 
-pub device_takes : (n : ℕ) (kind : Kind) (label : List ℕ) (old new : ReadDraft) → IsSound old → (shown_draft old).pool ≡ []
+pub device_takes : (n : ℕ) (kind : Kind) (label : List ℕ) (old new : Draft) → IsSound old → (shown_draft old).pool ≡ []
     → is_some (shown_draft old).slot ≡ true → n ≤ 15
     → fault_of (ADevice n kind label) (shown_draft old) ≡ None → shown_draft new ≡ with_line (ADevice n kind label) (shown_draft old) → new.words ≡ old.words
     → new.numbers.items ≡ old.numbers.items ++ n ∷ [] → Taken (Ok (ADevice n kind label)) 1 old new
@@ -258,7 +259,7 @@ is_medium : (b : Bool) → cond b (Some BadMedium) None ≡ None → b ≡ false
 is_medium true h = absurd cc
 is_medium false h = refl
 
-medium_kept : (words : ℕ) (numbers : List ℕ) (d : Draft) (s : SlotDraft) (marked : Bool) (text : List ℕ) → IsKept words numbers d → d.pool ≡ []
+medium_kept : (words : ℕ) (numbers : List ℕ) (d : ShownDraft) (s : ShownSlotDraft) (marked : Bool) (text : List ℕ) → IsKept words numbers d → d.pool ≡ []
     → d.slot ≡ Some s
     → is_none (with_line_of_medium marked text s.device) ≡ false → IsKept words numbers (with_line (AMedium marked text) d)
 medium_kept words numbers d s marked text was none is some =
@@ -278,7 +279,7 @@ medium_kept words numbers d s marked text was none is some =
     })
     (rw is refl)
 
-medium_taken : (marked : Bool) (text : List ℕ) (old new : ReadDraft) → IsSound old → (shown_draft old).pool ≡ [] → is_some (shown_draft old).slot ≡ true
+medium_taken : (marked : Bool) (text : List ℕ) (old new : Draft) → IsSound old → (shown_draft old).pool ≡ [] → is_some (shown_draft old).slot ≡ true
     → fault_of (AMedium marked text) (shown_draft old) ≡ None → shown_draft new ≡ with_line (AMedium marked text) (shown_draft old) → new.words ≡ old.words
     → new.numbers.items ≡ old.numbers.items → Taken (Ok (AMedium marked text)) (length text + 2) old new
 medium_taken marked text old new sound none there faultless shown words numbers =
@@ -291,7 +292,7 @@ medium_taken marked text old new sound none there faultless shown words numbers 
     let n = little_longer marked text s.0.device some in
     omega arith)
 
-pub medium_takes : (marked : Bool) (text : List ℕ) (old new : ReadDraft) (r : Result (Unit {0}) LineError) → IsSound old → (shown_draft old).pool ≡ []
+pub medium_takes : (marked : Bool) (text : List ℕ) (old new : Draft) (r : Result (Unit {0}) LineError) → IsSound old → (shown_draft old).pool ≡ []
     → is_some (shown_draft old).slot ≡ true
     → IsChecked (medium_fault marked text (shown_draft old).slot) (with_line (AMedium marked text) (shown_draft old)) (shown_draft new) r
     → new.words ≡ old.words
@@ -301,20 +302,20 @@ medium_takes marked text old new (Err (Fault fault)) sound none there h words nu
 medium_takes marked text old new (Err Memory) sound none there h words numbers = tt {0}
 
 -- ---- `STORE n`
-store_sound : (n words : ℕ) (slots : List SlotJob) → words ≡ words_in slots → store_fault n slots ≡ None → (n % 32 ≡ 0) × (words + n ≤ most_words_together)
+store_sound : (n words : ℕ) (slots : List ShownSlot) → words ≡ words_in slots → store_fault n slots ≡ None → (n % 32 ≡ 0) × (words + n ≤ most_words_together)
 store_sound n words slots sum h = grind (arith, nat_tests)
 
-store_kept : (words : ℕ) (numbers : List ℕ) (d : Draft) (p n : ℕ) → IsKept words numbers d → d.place ≡ BehindSlot p → 32 ≤ n → n ≤ most_words
+store_kept : (words : ℕ) (numbers : List ℕ) (d : ShownDraft) (p n : ℕ) → IsKept words numbers d → d.place ≡ BehindSlot p → 32 ≤ n → n ≤ most_words
     → store_fault n (slots_told d) ≡ None
     → IsKept (words + n) numbers (with_line (AStore n) d)
 store_kept words numbers d p n was place least most faultless =
-    let placed : IsPlaced (BehindSlot p) d.slot = subst (λ (x : Place). IsPlaced x d.slot) place was.placed in
+    let placed : IsPlaced (BehindSlot p) d.slot = subst (λ (x : LinePlace). IsPlaced x d.slot) place was.placed in
     let fits = store_sound n words (slots_told d) was.sum faultless in
-    let none : d.pool ≡ [] = subst (λ (x : Place). IsUntold x d.pool) place was.untold in
-    store_told words p n numbers d (with_line (AStore n) d) was none none refl (ap (λ (x : Place). Some (new_slot (number_at x) n)) place) refl placed.1
+    let none : d.pool ≡ [] = subst (λ (x : LinePlace). IsUntold x d.pool) place was.untold in
+    store_told words p n numbers d (with_line (AStore n) d) was none none refl (ap (λ (x : LinePlace). Some (new_slot (number_at x) n)) place) refl placed.1
     placed.0 least most fits.0 fits.1 refl
 
-pub store_takes : (p n : ℕ) (old new : ReadDraft) → IsSound old → old.place ≡ BehindSlot p → 32 ≤ n → n ≤ most_words
+pub store_takes : (p n : ℕ) (old new : Draft) → IsSound old → old.place ≡ BehindSlot p → 32 ≤ n → n ≤ most_words
     → fault_of (AStore n) (shown_draft old) ≡ None → shown_draft new ≡ with_line (AStore n) (shown_draft old)
     → new.words ≡ old.words + n → new.numbers.items ≡ old.numbers.items
     → Taken (Ok (AStore n)) 1 old new

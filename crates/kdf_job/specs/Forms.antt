@@ -9,9 +9,10 @@ use Rattle.kdf_schedule.specs.declared.event.Event.{Event}
 use Rattle.kdf_schedule.specs.declared.event.EventFault.{EventFault}
 use Rattle.kdf_schedule.specs.declared.event.EventFault.TheVariants as event_fault
 use Rattle.kdf_schedule.specs.Events.{event}
-use Rattle.kdf_job.specs.declared.place.Place.{Place}
-use Rattle.kdf_job.specs.declared.place.Place.TheVariants.{First, BehindHeader, BehindSlot, BehindStore, InDeck, BehindDeck, BehindService, BehindDevice}
-use Rattle.kdf_job.specs.declared.place.Place.TheVariants.{BehindShow, BehindPool, InSchedule, BehindEnd}
+use Rattle.kdf_job.specs.declared.line_place.LinePlace.{LinePlace}
+use Rattle.kdf_job.specs.declared.line_place.LinePlace.TheVariants.{First, BehindHeader, BehindSlot, BehindStore, InDeck, BehindDeck, BehindService}
+use Rattle.kdf_job.specs.declared.line_place.LinePlace.TheVariants.{BehindDevice}
+use Rattle.kdf_job.specs.declared.line_place.LinePlace.TheVariants.{BehindShow, BehindPool, InSchedule, BehindEnd}
 use Rattle.kdf_job.specs.declared.fault.JobFault.{JobFault}
 use Rattle.kdf_job.specs.declared.fault.JobFault.TheVariants.{Header, BadLine, BadNumber, BadMedium}
 use Rattle.kdf_limits.specs.declared.store.TheConstants.{LAST_ADDRESS}
@@ -36,22 +37,22 @@ pub data Form : Type 0 where
   AnEndJob : Form
 
 -- where the line after one of this form stands
-abbrev pub behind : Form → Place
-behind AHeader = BehindHeader
-behind (ASlot p) = BehindSlot p
-behind (AStore n) = BehindStore
-behind ADeck = InDeck
-behind (ADeckLine text) = InDeck
-behind AnEndDeck = BehindDeck
-behind AService = BehindService
-behind (ADevice d kind label) = BehindDevice
-behind (AMedium marked text) = BehindDevice
-behind (AShow a b) = BehindShow
-behind APool = BehindPool
-behind (APoolDevice d kind label) = BehindPool
-behind ASchedule = InSchedule
-behind (AnEvent what) = InSchedule
-behind AnEndJob = BehindEnd
+abbrev pub next_place : Form → LinePlace
+next_place AHeader = BehindHeader
+next_place (ASlot p) = BehindSlot p
+next_place (AStore n) = BehindStore
+next_place ADeck = InDeck
+next_place (ADeckLine text) = InDeck
+next_place AnEndDeck = BehindDeck
+next_place AService = BehindService
+next_place (ADevice d kind label) = BehindDevice
+next_place (AMedium marked text) = BehindDevice
+next_place (AShow a b) = BehindShow
+next_place APool = BehindPool
+next_place (APoolDevice d kind label) = BehindPool
+next_place ASchedule = InSchedule
+next_place (AnEvent what) = InSchedule
+next_place AnEndJob = BehindEnd
 
 -- a line has a form, with what it tells or with a bad number; or it hasn't that form
 abbrev pub Told : Type 0
@@ -188,7 +189,7 @@ pool_device_or_end line =
     pooled (device_line line) ∷ alone (codes "SCHEDULE") ASchedule line ∷ []
 
 -- what a line tells in its place: a line of a deck may be anything but its end
-abbrev pub told_at : Place → List ℕ → Result Form JobFault
+abbrev pub told_at : LinePlace → List ℕ → Result Form JobFault
 told_at First line = if is_text (codes "KDF9 JOB 1") line then Ok AHeader else Err Header
 told_at BehindHeader line = first_told (slot_line line ∷ [])
 told_at (BehindSlot p) line = first_told (store_line line ∷ [])

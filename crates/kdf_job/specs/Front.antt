@@ -2,21 +2,21 @@
 use Rattle.std.specs.Prelude.{ℕ, min, Bool, true, false, List, [], ◌∷◌, length, take, Option, if◌then◌else◌}
 use Rattle.kdf_text.specs.Lines.{lines}
 use Rattle.kdf_text.specs.Text.{text}
-use Rattle.kdf_job.specs.declared.place.Place.{Place}
-use Rattle.kdf_job.specs.declared.place.Place.TheVariants.{First, BehindEnd}
+use Rattle.kdf_job.specs.declared.line_place.LinePlace.{LinePlace}
+use Rattle.kdf_job.specs.declared.line_place.LinePlace.TheVariants.{First, BehindEnd}
 use Rattle.kdf_job.specs.declared.fault.JobFault.{JobFault}
 use Rattle.kdf_job.specs.Forms.{told_at}
-use Rattle.kdf_job.specs.Job.{Job}
+use Rattle.kdf_job.specs.Job.{ShownJob}
 use Rattle.kdf_job.specs.Reading.{job, job_fault}
 use Rattle.kdf_job.specs.SlotLines.{place_behind}
 
 -- the line before told that the job ends
-abbrev pub is_behind_end : Place → Bool
+abbrev pub is_behind_end : LinePlace → Bool
 is_behind_end BehindEnd = true
 is_behind_end _ = false
 
 -- the lines up to that of the job's end, where the first stands at this place; all lines where none is its end
-abbrev pub lines_to_end : Place → List (List ℕ) → List (List ℕ)
+abbrev pub lines_to_end : LinePlace → List (List ℕ) → List (List ℕ)
 lines_to_end place [] = []
 lines_to_end place (line ∷ lines) =
     if is_behind_end place then []
@@ -38,5 +38,5 @@ front bytes = take (front_length bytes) bytes
 abbrev pub front_fault : List ℕ → Option (JobFault × ℕ)
 front_fault bytes = job_fault (front bytes)
 
-abbrev pub front_job : List ℕ → Job
+abbrev pub front_job : List ℕ → ShownJob
 front_job bytes = job (front bytes)

@@ -2,18 +2,18 @@
 use Rattle.std.specs.Prelude.{ℕ, Bool, List}
 use Rattle.kdf_journal.specs.declared.kind.Kind.{Kind}
 use Rattle.kdf_schedule.specs.declared.event.Event.{Event}
-use Rattle.kdf_transfer.specs.Devices.{Fixture, Progress}
+use Rattle.kdf_transfer.specs.Devices.{Fixture, DeviceProgress}
 
 -- a device with its number, as it is at the start
 pub record JobDevice : Type 0 where
   pub d : ℕ
   pub fixture : Fixture
-  pub progress : Progress
+  pub progress : DeviceProgress
 
 -- a slot: its number, the size of its store, the text of its deck, its devices, the first and the last address of
 -- each run of words that the report shows, the numbers and kinds of the devices that are lent out, and whether the
 -- installation's service answers its program
-pub record SlotJob : Type 0 where
+pub record ShownSlot : Type 0 where
   pub p : ℕ
   pub size : ℕ
   pub deck : List ℕ
@@ -23,7 +23,7 @@ pub record SlotJob : Type 0 where
   pub served : Bool
 
 -- the slots, the schedule, and the devices that are lent out
-pub record Job : Type 0 where
-  pub slots : List SlotJob
+pub record ShownJob : Type 0 where
+  pub slots : List ShownSlot
   pub events : List Event
   pub pool : List (ℕ × Kind)

@@ -7,7 +7,7 @@ use Rattle.kdf_journal.specs.declared.kind.Kind.{Kind}
 use Rattle.kdf_journal.specs.declared.kind.Kind.TheVariants.{Tr, Tp, Cr, Lp, Mt}
 use Rattle.kdf_media.specs.Media.{card_of}
 use Rattle.kdf_tape.specs.Tape.{Recorded}
-use Rattle.kdf_transfer.specs.Devices.{Progress}
+use Rattle.kdf_transfer.specs.Devices.{DeviceProgress}
 use Rattle.kdf_job.specs.Job.{JobDevice}
 use Rattle.kdf_job.specs.Limits.{card_length, longest_block}
 
@@ -38,7 +38,7 @@ abbrev pub word_of_text : List ℕ → ℕ
 word_of_text text = word_of_codes (codes_in text)
 
 -- a device with these blocks at the start
-abbrev pub at_start : List Recorded → Progress
+abbrev pub at_start : List Recorded → DeviceProgress
 at_start recorded =
     record { place = 0; flag = false; mark = false; blocks = []; recorded = recorded }
 

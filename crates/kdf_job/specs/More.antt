@@ -5,15 +5,15 @@ use Rattle.kdf_text.specs.Lines.{lines}
 use Rattle.kdf_schedule.specs.declared.event.Event.{Event}
 use Rattle.kdf_schedule.specs.declared.event.EventFault.{EventFault}
 use Rattle.kdf_schedule.specs.Events.{event}
-use Rattle.kdf_job.specs.declared.place.Place.{Place}
-use Rattle.kdf_job.specs.declared.place.Place.TheVariants.{InSchedule}
+use Rattle.kdf_job.specs.declared.line_place.LinePlace.{LinePlace}
+use Rattle.kdf_job.specs.declared.line_place.LinePlace.TheVariants.{InSchedule}
 use Rattle.kdf_job.specs.declared.fault.JobFault.{JobFault}
-use Rattle.kdf_job.specs.Draft.{Draft, blank}
-use Rattle.kdf_job.specs.Job.{Job}
+use Rattle.kdf_job.specs.Draft.{ShownDraft, blank}
+use Rattle.kdf_job.specs.Job.{ShownJob}
 use Rattle.kdf_job.specs.Reading.{fault_from}
 
 -- a draft that has these events; a line of a schedule asks for nothing else
-abbrev pub scheduled : Place → List Event → Draft
+abbrev pub scheduled : LinePlace → List Event → ShownDraft
 scheduled place events = record blank { place = place; events = events }
 
 -- the first faulty one of further lines, which are counted from number n, after these events
@@ -33,5 +33,5 @@ unfoldable pub more_events : List ℕ → List Event
 more_events bytes = events_in (lines bytes)
 
 -- the job with more events after its own
-abbrev pub joined : Job → List Event → Job
+abbrev pub joined : ShownJob → List Event → ShownJob
 joined j more = record j { events = j.events ++ more }

@@ -12,13 +12,13 @@ use Rattle.kdf_journal.specs.declared.kind.Kind.TheVariants as kind
 use Rattle.kdf_job.specs.declared.device_draft.Medium.{Medium}
 use Rattle.kdf_job.specs.declared.device_draft.Medium.TheVariants as medium
 use Rattle.kdf_job.specs.declared.device_draft.DeviceDraft.{DeviceDraft}
-use Rattle.kdf_job.specs.declared.slot_draft.SlotDraft.{SlotDraft as ReadSlotDraft}
-use Rattle.kdf_job.specs.declared.draft.Draft.{Draft as ReadDraft}
-use Rattle.kdf_job.specs.Draft.{SlotDraft, Draft}
+use Rattle.kdf_job.specs.declared.slot_draft.SlotDraft.{SlotDraft}
+use Rattle.kdf_job.specs.declared.draft.Draft.{Draft}
+use Rattle.kdf_job.specs.Draft.{ShownSlotDraft, ShownDraft}
 use Rattle.kdf_job.specs.Media.{at_start}
-use Rattle.kdf_job.specs.declared.job.Job.{Job as ReadJob}
-use Rattle.kdf_job.specs.declared.job.SlotJob.{SlotJob as ReadSlot}
-use Rattle.kdf_job.specs.Job.{JobDevice, SlotJob, Job}
+use Rattle.kdf_job.specs.declared.job.Job.{Job}
+use Rattle.kdf_job.specs.declared.job.SlotJob.{SlotJob}
+use Rattle.kdf_job.specs.Job.{JobDevice, ShownSlot, ShownJob}
 
 abbrev pub shown_device : ℕ × Device → JobDevice
 shown_device x = record { d = x.0; fixture = fixture_of x.1; progress = progress_of x.1 }
@@ -43,7 +43,7 @@ shown_device_draft x =
     record { d = x.d; fixture = fixture_in x.medium; progress = at_start (blocks_in x.medium) }
 
 -- a slot that is being read
-abbrev pub shown_slot_draft : ReadSlotDraft → SlotDraft
+abbrev pub shown_slot_draft : SlotDraft → ShownSlotDraft
 shown_slot_draft s =
     record {
       p = s.p;
@@ -56,7 +56,7 @@ shown_slot_draft s =
       served = s.served;
     }
 
-abbrev pub shown_slot : ReadSlot → SlotJob
+abbrev pub shown_slot : SlotJob → ShownSlot
 shown_slot s =
     record {
       p = s.p;
@@ -68,7 +68,7 @@ shown_slot s =
       served = s.served;
     }
 
-abbrev pub shown_job : ReadJob → Job
+abbrev pub shown_job : Job → ShownJob
 shown_job j =
     record {
       slots = map shown_slot j.slots.items;
@@ -86,7 +86,7 @@ told_line None = None
 told_line (Some x) = Some (Ok (AMedium x.marked x.text.now))
 
 -- what the lines so far tell
-abbrev pub shown_draft : ReadDraft → Draft
+abbrev pub shown_draft : Draft → ShownDraft
 shown_draft d =
     record {
       place = d.place;

@@ -1,14 +1,14 @@
 -- The lines of a job that are those of a slot, and those of the pool.
 use Rattle.std.specs.Prelude.{ℕ, ◌==◌, Bool, true, false, List, [], ◌∷◌, Result, Ok, Err, if◌then◌else◌}
 use Rattle.kdf_text.specs.Lines.{lines}
-use Rattle.kdf_job.specs.declared.place.Place.{Place}
-use Rattle.kdf_job.specs.declared.place.Place.TheVariants.{First, BehindSlot, BehindPool}
+use Rattle.kdf_job.specs.declared.line_place.LinePlace.{LinePlace}
+use Rattle.kdf_job.specs.declared.line_place.LinePlace.TheVariants.{First, BehindSlot, BehindPool}
 use Rattle.kdf_job.specs.declared.fault.JobFault.{JobFault}
-use Rattle.kdf_job.specs.Forms.{Form, ASlot, APool, ASchedule, behind, told_at}
+use Rattle.kdf_job.specs.Forms.{Form, ASlot, APool, ASchedule, next_place, told_at}
 
 -- where the line after one stands, which tells this at its place; a line without a form changes nothing
-abbrev pub place_behind : Place → Result Form JobFault → Place
-place_behind place (Ok form) = behind form
+abbrev pub place_behind : LinePlace → Result Form JobFault → LinePlace
+place_behind place (Ok form) = next_place form
 place_behind place (Err fault) = place
 
 -- `SLOT p`
@@ -24,14 +24,14 @@ ends (Ok ASchedule) = true
 ends _ = false
 
 -- the lines before the one that ends the slot, where the first stands at this place
-abbrev pub rest_of_slot : Place → List (List ℕ) → List (List ℕ)
+abbrev pub rest_of_slot : LinePlace → List (List ℕ) → List (List ℕ)
 rest_of_slot place [] = []
 rest_of_slot place (line ∷ lines) =
     if ends (told_at place line) then []
     else line ∷ rest_of_slot (place_behind place (told_at place line)) lines
 
 -- those from the one on that begins slot p
-abbrev pub lines_from : ℕ → Place → List (List ℕ) → List (List ℕ)
+abbrev pub lines_from : ℕ → LinePlace → List (List ℕ) → List (List ℕ)
 lines_from p place [] = []
 lines_from p place (line ∷ lines) =
     if begins p (told_at place line) then line ∷ rest_of_slot (BehindSlot p) lines
@@ -59,7 +59,7 @@ rest_of_pool (line ∷ lines) =
     if closes (told_at BehindPool line) then [] else line ∷ rest_of_pool lines
 
 -- those from the one on that begins the pool, where the first stands at this place
-abbrev pub pool_from : Place → List (List ℕ) → List (List ℕ)
+abbrev pub pool_from : LinePlace → List (List ℕ) → List (List ℕ)
 pool_from place [] = []
 pool_from place (line ∷ lines) =
     if opens (told_at place line) then line ∷ rest_of_pool lines

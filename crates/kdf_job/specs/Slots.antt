@@ -3,9 +3,9 @@ use Rattle.std.specs.Prelude.{ℕ, ◌==◌, Bool, List, find, Option, Some, Non
 use Rattle.std.specs.Option.{option_map}
 use Rattle.kdf_journal.specs.declared.kind.Kind.{Kind}
 use Rattle.kdf_transfer.specs.ByNumber.{by_number}
-use Rattle.kdf_transfer.specs.Devices.{Fixture, Progress, new_progress}
+use Rattle.kdf_transfer.specs.Devices.{Fixture, DeviceProgress, new_progress}
 use Rattle.kdf_transfer.specs.Slots.{Slot}
-use Rattle.kdf_job.specs.Job.{JobDevice, SlotJob}
+use Rattle.kdf_job.specs.Job.{JobDevice, ShownSlot}
 
 -- the first device of a number, of those that a slot of a job has
 abbrev pub numbered : List JobDevice → ℕ → Option JobDevice
@@ -15,7 +15,7 @@ numbered devices d = find (λ (x : JobDevice). x.d == d) devices
 abbrev pub fixture_on : Option JobDevice → Option Fixture
 fixture_on o = option_map (λ (x : JobDevice). x.fixture) o
 
-abbrev pub progress_on : Option JobDevice → Progress
+abbrev pub progress_on : Option JobDevice → DeviceProgress
 progress_on None = new_progress
 progress_on (Some x) = x.progress
 
@@ -38,5 +38,5 @@ slot_with p size words devices pool served =
     }
 
 -- a slot of a job with these words
-abbrev pub slot_of : SlotJob → List ℕ → Slot
+abbrev pub slot_of : ShownSlot → List ℕ → Slot
 slot_of s words = slot_with s.p s.size words s.devices s.pool s.served

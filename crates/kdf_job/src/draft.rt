@@ -10,13 +10,13 @@ ghost use Rattle.kdf_job.specs.Media.{word_of_text};
 ghost use Rattle.kdf_job.specs.Shows.{shown_draft, shown_job, shown_slot, shown_slot_draft};
 ghost use Rattle.kdf_job.specs.Taking.{IsSound, Takes};
 ghost use Rattle.kdf_job.specs.WellFormed.{IsJob};
-ghost use Rattle.kdf_job.specs.declared.place.Place.TheVariants.{BehindEnd, BehindSlot, BehindStore, InSchedule};
+ghost use Rattle.kdf_job.specs.declared.line_place.LinePlace.TheVariants.{BehindEnd, BehindSlot, BehindStore, InSchedule};
 
 use crate::forms::{DeviceLine, MediumLine};
 use crate::media::is_label;
 use crate::schedule::Schedule;
 use crate::slot_draft::SlotDraft;
-use crate::{Job, JobFault, LineError, Place, SlotJob};
+use crate::{Job, JobFault, LineError, LinePlace, SlotJob};
 use kdf_journal::Kind;
 use kdf_limits::{GROUP_WORDS, PROGRAM_WORDS, PROGRAMS_WORDS};
 use kdf_schedule::Event;
@@ -26,7 +26,7 @@ use std::alloc::{AllocError, Global};
 /// What the lines so far tell of a job, and where the next line stands.
 #[derive(Drop)]
 pub struct Draft {
-    pub place: Place,
+    pub place: LinePlace,
     /// The slots of which all lines are read.
     slots: Vec<SlotJob>,
     /// The slot after them.
@@ -48,7 +48,7 @@ impl Draft {
         ensures sound { IsSound result }
     {
         Draft {
-            place: Place::First,
+            place: LinePlace::First,
             slots: Vec::new(alloc),
             slot: None,
             words: 0,
@@ -108,7 +108,7 @@ impl Draft {
         ensures numbers { self.new.numbers.items ≡ self.old.numbers.items }
     {
         self.slot = Some(SlotDraft::new(alloc, p, size));
-        self.place = Place::BehindStore;
+        self.place = LinePlace::BehindStore;
     }
 
     /// Puts the slot of which all lines are read after the others.
@@ -131,7 +131,7 @@ impl Draft {
         ensures words { self.new.words ≡ self.old.words }
         ensures numbers { self.new.numbers.items ≡ self.old.numbers.items }
     {
-        self.place = Place::InDeck;
+        self.place = LinePlace::InDeck;
         match &mut self.slot {
             Some(slot) => slot.add_deck_line(line),
             None => Ok(()),
@@ -144,7 +144,7 @@ impl Draft {
         ensures words { self.new.words ≡ self.old.words }
         ensures numbers { self.new.numbers.items ≡ self.old.numbers.items }
     {
-        self.place = Place::BehindService;
+        self.place = LinePlace::BehindService;
         if let Some(slot) = &mut self.slot {
             slot.add_service();
         }
@@ -214,7 +214,7 @@ impl Draft {
         ensures numbers { OnOk result (self.new.numbers.items
             ≡ self.old.numbers.items ++ device.entry.d ∷ []) }
     {
-        self.place = Place::BehindDevice;
+        self.place = LinePlace::BehindDevice;
         self.numbers.push(device.d)?;
         match &mut self.slot {
             Some(slot) => slot.add_device(alloc, device.d, device.kind, label),
@@ -244,7 +244,7 @@ impl Draft {
         ensures numbers { OnOk result (self.new.numbers.items
             ≡ self.old.numbers.items ++ device.entry.d ∷ []) }
     {
-        self.place = Place::BehindPool;
+        self.place = LinePlace::BehindPool;
         self.numbers.push(device.d)?;
         self.pool.push((device.d, device.kind))?;
         Ok(())
@@ -260,7 +260,7 @@ impl Draft {
         ensures words { self.new.words ≡ self.old.words }
         ensures numbers { self.new.numbers.items ≡ self.old.numbers.items }
     {
-        self.place = Place::BehindDevice;
+        self.place = LinePlace::BehindDevice;
         match &mut self.slot {
             Some(slot) => slot.add_medium_line(alloc, line),
             None => Err(LineError::Fault(JobFault::BadMedium)),
@@ -284,7 +284,7 @@ impl Draft {
         ensures words { self.new.words ≡ self.old.words }
         ensures numbers { self.new.numbers.items ≡ self.old.numbers.items }
     {
-        self.place = Place::BehindShow;
+        self.place = LinePlace::BehindShow;
         match &mut self.slot {
             Some(slot) => slot.add_show(first, last),
             None => Ok(()),

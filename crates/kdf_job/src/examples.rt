@@ -7,7 +7,7 @@ ghost use Rattle.kdf_text.specs.Text.{text};
 ghost use Rattle.kdf_journal.specs.declared.kind.Kind.TheVariants as kind;
 ghost use Rattle.kdf_schedule.specs.declared.event.Event.TheVariants as event;
 ghost use Rattle.kdf_job.specs.declared.fault.JobFault.TheVariants as fault;
-ghost use Rattle.kdf_job.specs.declared.place.Place.TheVariants as place;
+ghost use Rattle.kdf_job.specs.declared.line_place.LinePlace.TheVariants as place;
 ghost use Rattle.kdf_job.specs.Draft.{event_fault, lent_fault, new_slot, show_fault, slot_fault, slot_of, store_fault};
 ghost use Rattle.kdf_job.specs.Forms.{ADeckLine, ADevice, AMedium, APool, APoolDevice, ASchedule, AService, AShow, ASlot, AStore, AnEndDeck, AnEndJob, AnEvent, told_at};
 ghost use Rattle.kdf_limits.specs.declared.store.TheConstants.{PROGRAMS_WORDS};

@@ -1,6 +1,6 @@
 //! What is wrong with a job.
 ghost use Rattle.std.specs.Prelude.{◌≡◌};
-ghost use Rattle.kdf_job.specs.Faults.{name_of};
+ghost use Rattle.kdf_job.specs.Faults.{job_fault_name};
 ghost use Rattle.kdf_job.specs.declared.fault.JobError.TheVariants.{Memory};
 
 use std::alloc::{AllocError, AllocFailed};
@@ -44,7 +44,7 @@ pub enum JobFault {
 impl JobFault {
     /// The name of the fault, as it is printed.
     pub fn name(&self) -> &'static str
-        ensures { result.now ≡ name_of self.now }
+        ensures { result.now ≡ job_fault_name self.now }
     {
         match self {
             JobFault::Header => "Header",

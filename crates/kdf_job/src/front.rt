@@ -9,7 +9,7 @@ ghost use Rattle.kdf_job.specs.declared.job.TheConstants.{TEXT_LIMIT};
 
 use crate::draft::Draft;
 use crate::reader::{finish, read_line};
-use crate::{Job, JobError, Place};
+use crate::{Job, JobError, LinePlace};
 use kdf_text::Lines;
 use std::alloc::Global;
 
@@ -40,7 +40,7 @@ pub fn read_job_front(alloc: Global, bytes: &[u8]) -> Result<(Job, usize), JobEr
 }
 
 /// A line of the job is ahead, if the next line stands at this place.
-pub fn goes_on(lines: Lines, place: Place) -> bool
+pub fn goes_on(lines: Lines, place: LinePlace) -> bool
     ensures { result ≡ (nat_lt 0 (length lines.entry.rest.now) && not (is_behind_end place)) }
 {
     !lines.rest.is_empty() && !place.is_behind_end()

@@ -4,7 +4,7 @@ ghost use Rattle.kdf_text.specs.declared.lines.TheConstants.{LINE_END};
 ghost use Rattle.kdf_text.specs.Lines.{lines};
 ghost use Rattle.kdf_job.specs.declared.fault.JobFault.{JobFault};
 ghost use Rattle.kdf_job.specs.Front.{front, front_fault, front_job, front_length, front_lines};
-ghost use Rattle.kdf_job.specs.Job.{SlotJob};
+ghost use Rattle.kdf_job.specs.Job.{ShownSlot};
 ghost use Rattle.kdf_job.specs.More.{joined, more_events, more_fault};
 ghost use Rattle.kdf_job.specs.Reading.{job, job_fault};
 ghost use Rattle.kdf_job.specs.SlotLines.{pool_lines, slot_lines};
@@ -14,8 +14,8 @@ ghost use Rattle.kdf_job.specs.SlotLines.{pool_lines, slot_lines};
 pub fn slots_of_lines()
     ensures { (one other : List ℕ) (p : ℕ) → job_fault one ≡ None → job_fault other ≡ None →
         slot_lines p one ≡ slot_lines p other → pool_lines one ≡ pool_lines other →
-        find (λ (s : SlotJob). s.p == p) (job one).slots
-        ≡ find (λ (s : SlotJob). s.p == p) (job other).slots }
+        find (λ (s : ShownSlot). s.p == p) (job one).slots
+        ≡ find (λ (s : ShownSlot). s.p == p) (job other).slots }
 {}
 
 /// The front of a text has its first lines, and the bytes after it have the others. A job without a fault is its own

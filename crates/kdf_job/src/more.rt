@@ -8,11 +8,11 @@ ghost use Rattle.kdf_job.specs.Reading.{Says, fault_from};
 ghost use Rattle.kdf_job.specs.Shows.{shown_job};
 ghost use Rattle.kdf_job.specs.WellFormed.{IsJob, IsSchedule};
 ghost use Rattle.kdf_job.specs.declared.job.TheConstants.{TEXT_LIMIT};
-ghost use Rattle.kdf_job.specs.declared.place.Place.TheVariants.{InSchedule};
+ghost use Rattle.kdf_job.specs.declared.line_place.LinePlace.TheVariants.{InSchedule};
 
 use crate::front::goes_on;
 use crate::schedule::Schedule;
-use crate::{Job, JobError, JobFault, Place};
+use crate::{Job, JobError, JobFault, LinePlace};
 use kdf_schedule::Event;
 use kdf_text::Lines;
 use std::alloc::Global;
@@ -77,7 +77,7 @@ fn read_to_end(mut lines: Lines, schedule: &mut Schedule) -> Result<(), JobError
         ≡ schedule.old.events.items ++ events_in (ahead lines.entry)) }
     ensures sound { OnOk result (IsSchedule schedule.new.events.items) }
 {
-    let mut place = Place::InSchedule;
+    let mut place = LinePlace::InSchedule;
     while goes_on(lines, place) {
         place = read_schedule_line(&mut lines, schedule)?;
     }
@@ -89,14 +89,14 @@ fn read_to_end(mut lines: Lines, schedule: &mut Schedule) -> Result<(), JobError
 }
 
 /// The schedule is ended, if the next line stands at this place, and no line is ahead.
-fn is_over(lines: Lines, place: Place) -> bool
+fn is_over(lines: Lines, place: LinePlace) -> bool
     ensures { result ≡ (nat_eq (length lines.entry.rest.now) 0 && is_behind_end place) }
 {
     lines.rest.is_empty() && place.is_behind_end()
 }
 
 /// Reads the next line of a schedule. The answer is where the line after it stands.
-fn read_schedule_line(lines: &mut Lines, schedule: &mut Schedule) -> Result<Place, JobError>
+fn read_schedule_line(lines: &mut Lines, schedule: &mut Schedule) -> Result<LinePlace, JobError>
     requires some { 0 < length lines.old.rest.now }
     requires sound { IsSchedule schedule.old.events.items }
     ensures reads { IfOk result (λ place. Reads lines.old (scheduled InSchedule schedule.old.events.items)

@@ -10,10 +10,10 @@ ghost use Rattle.kdf_job.specs.Shows.{shown_draft, shown_job};
 ghost use Rattle.kdf_job.specs.Taking.{IsSound};
 ghost use Rattle.kdf_job.specs.WellFormed.{IsJob};
 ghost use Rattle.kdf_job.specs.declared.job.TheConstants.{TEXT_LIMIT};
-ghost use Rattle.kdf_job.specs.declared.place.Place.TheVariants.{BehindEnd};
+ghost use Rattle.kdf_job.specs.declared.line_place.LinePlace.TheVariants.{BehindEnd};
 
 use crate::draft::Draft;
-use crate::{Job, JobError, JobFault, Place};
+use crate::{Job, JobError, JobFault, LinePlace};
 use kdf_text::Lines;
 use std::alloc::Global;
 
@@ -70,14 +70,14 @@ pub fn finish(alloc: Global, draft: Draft, number: u32) -> Result<Job, JobError>
 }
 
 /// The text may end where a line of this number would stand at this place.
-fn check_end(place: Place, number: u32) -> Result<(), JobError>
+fn check_end(place: LinePlace, number: u32) -> Result<(), JobError>
     ensures ok { OnOk result (at_line number (end_fault place) ≡ None) }
     ensures fault { IfErr result (λ e. Says e (at_line number (end_fault place))) }
     ensures place { OnOk result (place ≡ BehindEnd) }
 {
     match place {
-        Place::BehindEnd => Ok(()),
-        Place::First => Err(JobError::Fault(JobFault::Header, number)),
+        LinePlace::BehindEnd => Ok(()),
+        LinePlace::First => Err(JobError::Fault(JobFault::Header, number)),
         _ => Err(JobError::Fault(JobFault::BadLine, number)),
     }
 }

@@ -5,14 +5,14 @@ ghost use Rattle.kdf_job.specs.Lengths.{weight};
 ghost use Rattle.kdf_job.specs.Shows.{shown_draft};
 ghost use Rattle.kdf_job.specs.Taking.{IsSound, Taken, Takes};
 ghost use Rattle.kdf_job.specs.declared.job.TheConstants.{TEXT_LIMIT};
-ghost use Rattle.kdf_job.specs.declared.place.Place.TheVariants.{First, BehindHeader, BehindSlot, BehindStore, InDeck, BehindDeck, BehindService, BehindDevice, BehindShow, BehindPool, InSchedule, BehindEnd};
+ghost use Rattle.kdf_job.specs.declared.line_place.LinePlace.TheVariants.{First, BehindHeader, BehindSlot, BehindStore, InDeck, BehindDeck, BehindService, BehindDevice, BehindShow, BehindPool, InSchedule, BehindEnd};
 
 use crate::draft::Draft;
 use crate::forms::{
     DeviceLine, MediumLine, addresses, device_line, is, medium_line, slot_number, store_size,
 };
 use crate::media::word_of_text;
-use crate::{JobFault, LineError, Place};
+use crate::{JobFault, LineError, LinePlace};
 use kdf_limits::PROGRAM_WORDS;
 use std::alloc::Global;
 
@@ -25,18 +25,18 @@ impl Draft {
             (length line.now + 1) self.old self.new result }
     {
         match self.place {
-            Place::First => self.take_header(line),
-            Place::BehindHeader => self.take_first_slot(line),
-            Place::BehindSlot(p) => self.take_size(alloc, p, line),
-            Place::BehindStore => self.take_deck(line),
-            Place::InDeck => self.take_deck_line(line),
-            Place::BehindDeck => self.take_service_or_device(alloc, line),
-            Place::BehindService => self.take_device_or_end(alloc, line),
-            Place::BehindDevice => self.take_medium_or_device(alloc, line),
-            Place::BehindShow => self.take_show_or_end(line),
-            Place::BehindPool => self.take_in_pool(line),
-            Place::InSchedule => self.take_schedule_line(line),
-            Place::BehindEnd => Err(LineError::Fault(JobFault::BadLine)),
+            LinePlace::First => self.take_header(line),
+            LinePlace::BehindHeader => self.take_first_slot(line),
+            LinePlace::BehindSlot(p) => self.take_size(alloc, p, line),
+            LinePlace::BehindStore => self.take_deck(line),
+            LinePlace::InDeck => self.take_deck_line(line),
+            LinePlace::BehindDeck => self.take_service_or_device(alloc, line),
+            LinePlace::BehindService => self.take_device_or_end(alloc, line),
+            LinePlace::BehindDevice => self.take_medium_or_device(alloc, line),
+            LinePlace::BehindShow => self.take_show_or_end(line),
+            LinePlace::BehindPool => self.take_in_pool(line),
+            LinePlace::InSchedule => self.take_schedule_line(line),
+            LinePlace::BehindEnd => Err(LineError::Fault(JobFault::BadLine)),
         }
     }
 
@@ -47,7 +47,7 @@ impl Draft {
         ensures { Takes (told_at First line.now) (length line.now + 1) self.old self.new result }
     {
         if is(line, b"KDF9 JOB 1") {
-            self.place = Place::BehindHeader;
+            self.place = LinePlace::BehindHeader;
             Ok(())
         } else {
             Err(LineError::Fault(JobFault::Header))
@@ -78,7 +78,7 @@ impl Draft {
         if let Some(fault) = self.slot_fault(p) {
             return Err(LineError::Fault(fault));
         }
-        self.place = Place::BehindSlot(p);
+        self.place = LinePlace::BehindSlot(p);
         Ok(())
     }
 
@@ -119,7 +119,7 @@ impl Draft {
             (length line.now + 1) self.old self.new result }
     {
         if is(line, b"DECK") {
-            self.place = Place::InDeck;
+            self.place = LinePlace::InDeck;
             Ok(())
         } else {
             Err(LineError::Fault(JobFault::BadLine))
@@ -134,7 +134,7 @@ impl Draft {
         ensures { Takes (told_at InDeck line.now) (length line.now + 1) self.old self.new result }
     {
         if is(line, b"ENDDECK") {
-            self.place = Place::BehindDeck;
+            self.place = LinePlace::BehindDeck;
             return Ok(());
         }
         self.add_deck_line(line)?;
@@ -278,7 +278,7 @@ impl Draft {
             (length line.now + 1) self.old self.new result }
     {
         if is(line, b"POOL") {
-            self.place = Place::BehindPool;
+            self.place = LinePlace::BehindPool;
             Ok(())
         } else {
             self.take_schedule(line)
@@ -336,7 +336,7 @@ impl Draft {
             (length line.now + 1) self.old self.new result }
     {
         if is(line, b"SCHEDULE") {
-            self.place = Place::InSchedule;
+            self.place = LinePlace::InSchedule;
             Ok(())
         } else {
             Err(LineError::Fault(JobFault::BadLine))

@@ -3,7 +3,7 @@ use Rattle.std.proofs.Common.{◌≡◌, ℕ, ◌+◌, ◌<◌, ◌≤◌, lengt
 use Rattle.std.proofs.lemmas.Bool.{lt-ltb, le-ltb}
 use Rattle.kdf_usercode.specs.declared.fault.DeckFault.TheVariants.{PartTwice, ReferenceTwice, VRange, TooLarge}
 use Rattle.kdf_usercode.specs.declared.statement.Statement.{Statement}
-use Rattle.kdf_usercode.specs.Faults.{Found, found, lesser, least}
+use Rattle.kdf_usercode.specs.Faults.{FoundFault, found, lesser, least}
 use Rattle.kdf_usercode.specs.Rising.{Rises}
 use Rattle.kdf_usercode.specs.WellFormed.{AreWellFormed}
 use Rattle.kdf_usercode.proofs.Least.{least-append}
@@ -26,7 +26,7 @@ pub few : (ss : List Statement) (len : ℕ) → AreWellFormed ss len → length 
 few ss len w = omega (arith, w.short, rises-length 0 len ss (omega arith) w.rises)
 
 -- the first of all late faults
-pub first-late : (ss ss' : List Statement) (meant : Names) (first result : Option Found) → ss' ≡ ss → meant ≡ names ss
+pub first-late : (ss ss' : List Statement) (meant : Names) (first result : Option FoundFault) → ss' ≡ ss → meant ≡ names ss
     → first ≡ least (twice PartTwice [] (openings front ss) ++ twice ReferenceTwice [] (labels front ss) ++ twice VRange [] (constants front ss))
     → result ≡ lesser first (least (wrongs meant front ss')) → result ≡ least (late_faults ss)
 first-late ss ss' meant first result s m f e =
@@ -69,7 +69,7 @@ with-room m ss ss' refs image y len size s e l w f r ye le =
       omega (arith, ap (λ (p : Picture). length p.words) same, room),
     )
 
-pub placed-fault : (ss : List Statement) (len size : ℕ) (f : Found) → least (late_faults ss) ≡ Some f → placed ss len size ≡ Err f
+pub placed-fault : (ss : List Statement) (len size : ℕ) (f : FoundFault) → least (late_faults ss) ≡ Some f → placed ss len size ≡ Err f
 unfolding placed
 placed-fault ss len size f e = ap (λ o. verdict o (sized (picture_of ss) len size)) e
 

@@ -6,7 +6,7 @@ use Rattle.std.proofs.lemmas.Bool.{cases_lt, cases_Bool, lt-ltb, le-ltb, eqb-tru
 use Rattle.std.proofs.lemmas.List.{at_drop_more, take_more, get_or_default, get_or-take, take-append-drop, length-take-le}
 use Rattle.std.specs.List.Sorted.{IsNonDecreasingBy, IsPartitionPoint}
 use Rattle.kdf_usercode.specs.declared.fault.DeckFault.{DeckFault}
-use Rattle.kdf_usercode.specs.Faults.{Found, found, lesser, least}
+use Rattle.kdf_usercode.specs.Faults.{FoundFault, found, lesser, least}
 use Rattle.kdf_usercode.proofs.Least.{least-front}
 use Rattle.kdf_place.specs.declared.names.Entry.{Entry}
 use Rattle.kdf_place.specs.Keys.{key_of, key}
@@ -19,7 +19,7 @@ take-entry : {T : Type 0} (i : ℕ) (es : List T) (e : T) → i < length es → 
 take-entry i es e lt is = take_more es i e lt ∙ ap (λ x. take i es ++ x ∷ []) (sym is)
 
 -- one entry more was looked at
-pub twice-step : {T : Type 0} (fault : DeckFault) (best best' : Option Found) (i : ℕ) (es : List (Entry T)) (e : Entry T) (stood : Bool) → i < length es
+pub twice-step : {T : Type 0} (fault : DeckFault) (best best' : Option FoundFault) (i : ℕ) (es : List (Entry T)) (e : Entry T) (stood : Bool) → i < length es
     → e ≡ get_or es i e
     → stood ≡ is_some (first e.section e.number (take i es))
     → best' ≡ lesser best (least (cond stood (found fault e.place ∷ []) []))

@@ -4,7 +4,7 @@ use Rattle.std.proofs.Common.{ap, subst, ◌∙◌}
 use Rattle.kdf_syllable.specs.Spelling.{spelling}
 use Rattle.kdf_usercode.specs.declared.fault.DeckFault.TheVariants.{PartTwice, ReferenceTwice, VRange, TooLarge}
 use Rattle.kdf_usercode.specs.declared.statement.Statement.{Statement}
-use Rattle.kdf_usercode.specs.Faults.{Found, found, least}
+use Rattle.kdf_usercode.specs.Faults.{FoundFault, found, least}
 use Rattle.kdf_usercode.specs.WellFormed.{AreInRange, AreWellFormed}
 use Rattle.kdf_usercode.proofs.Least.{least-none}
 use Rattle.kdf_place.specs.Layout.{walked, front}
@@ -17,11 +17,11 @@ use Rattle.kdf_place.proofs.Meant.{reference-means, first-means}
 use Rattle.kdf_place.proofs.Stores.{stand-constant, stand-store}
 use Rattle.kdf_place.proofs.Walks.{nil-both, nil-founds, wrongs-append}
 
-verdict-ok : (o : Option Found) (rest : Result Picture Found) (image : Picture) → verdict o rest ≡ Ok image → (o ≡ None) × (rest ≡ Ok image)
+verdict-ok : (o : Option FoundFault) (rest : Result Picture FoundFault) (image : Picture) → verdict o rest ≡ Ok image → (o ≡ None) × (rest ≡ Ok image)
 verdict-ok None rest image e = (refl, e)
 verdict-ok (Some f) rest image e = absurd cc
 
-roomy : (b : Bool) (f : Found) (picture image : Picture) (answer : Result Picture Found) → answer ≡ cond b (Err f) (Ok picture) → answer ≡ Ok image
+roomy : (b : Bool) (f : FoundFault) (picture image : Picture) (answer : Result Picture FoundFault) → answer ≡ cond b (Err f) (Ok picture) → answer ≡ Ok image
     → picture ≡ image
 roomy true f picture image answer is e = absurd cc
 roomy false f picture image answer is e = cc

@@ -7,7 +7,7 @@ use Rattle.kdf_usercode.specs.declared.fault.DeckFault.TheVariants.{PartTwice, R
 use Rattle.kdf_usercode.specs.declared.statement.Statement.{Statement}
 use Rattle.kdf_usercode.specs.declared.statement.What.{What}
 use Rattle.kdf_usercode.specs.declared.statement.What.TheVariants.{Reference}
-use Rattle.kdf_usercode.specs.Faults.{Found, found}
+use Rattle.kdf_usercode.specs.Faults.{FoundFault, found}
 use Rattle.kdf_place.specs.declared.here.Here.{Here}
 use Rattle.kdf_place.specs.declared.names.Entry.{Entry}
 use Rattle.kdf_place.specs.declared.names.Mark.{Mark}
@@ -18,7 +18,7 @@ use Rattle.kdf_place.specs.Names.{first, part_opened, opening, openings, label_a
 use Rattle.kdf_place.specs.Stands.{AllPassed, EndsAt}
 use Rattle.kdf_place.proofs.Walks.{nil-both, walked-append, next_order-found, labels-append, openings-append}
 
-pub no-fault : (b : Bool) (f : Found) → cond b (f ∷ []) [] ≡ [] → b ≡ false
+pub no-fault : (b : Bool) (f : FoundFault) → cond b (f ∷ []) [] ≡ [] → b ≡ false
 no-fault true f e = absurd cc
 no-fault false f e = refl
 

@@ -10,7 +10,7 @@ use Rattle.std.specs.Ordering.{is_lt, nat_cmp}
 use Rattle.kdf_fault.specs.Faults.{IsOneOf, NoneBefore, IsFirst, before}
 use Rattle.kdf_fault.proofs.Least.{least-first}
 use Rattle.kdf_usercode.specs.declared.fault.DeckFault.{DeckFault}
-use Rattle.kdf_usercode.specs.Faults.{Found, found, number_of, lesser, least}
+use Rattle.kdf_usercode.specs.Faults.{FoundFault, found, number_of, lesser, least}
 use Rattle.kdf_usercode.proofs.Least.{least-between}
 use Rattle.kdf_place.specs.declared.names.Entry.{Entry}
 use Rattle.kdf_place.specs.Keys.{key}
@@ -51,21 +51,21 @@ filter-none {T = T} q before e fail =
 
 -- ---- faults as members
 
-joined-left : (f : Found) (xs ys : List Found) → IsOneOf f xs → IsOneOf f (xs ++ ys)
+joined-left : (f : FoundFault) (xs ys : List FoundFault) → IsOneOf f xs → IsOneOf f (xs ++ ys)
 joined-left f [] ys is = absurd is
 joined-left f (x ∷ xs) ys is = elim is [ inl here ↦ inl here | inr later ↦ inr (joined-left f xs ys later) ]
 
-joined-right : (f : Found) (xs ys : List Found) → IsOneOf f ys → IsOneOf f (xs ++ ys)
+joined-right : (f : FoundFault) (xs ys : List FoundFault) → IsOneOf f ys → IsOneOf f (xs ++ ys)
 joined-right f [] ys is = is
 joined-right f (x ∷ xs) ys is = inr (joined-right f xs ys is)
 
-apart-of : (f : Found) (xs ys : List Found) → IsOneOf f (xs ++ ys) → IsOneOf f xs ⊎ IsOneOf f ys
+apart-of : (f : FoundFault) (xs ys : List FoundFault) → IsOneOf f (xs ++ ys) → IsOneOf f xs ⊎ IsOneOf f ys
 apart-of f [] ys is = inr is
 apart-of f (x ∷ xs) ys is =
     elim is [ inl here ↦ inl (inl here) | inr later ↦ elim (apart-of f xs ys later) [ inl left ↦ inl (inr left) | inr right ↦ inr right ] ]
 
 -- the fault of an entry, where its number stood before
-abbrev fault_of : {T : Type 0} → DeckFault → List (Entry T) → Entry T → List Found
+abbrev fault_of : {T : Type 0} → DeckFault → List (Entry T) → Entry T → List FoundFault
 fault_of fault before e = cond (is_some (first e.section e.number before)) (found fault e.place ∷ []) []
 
 fault_of-filter : {T : Type 0} (fault : DeckFault) (q : Entry T → Bool) (before : List (Entry T)) (e : Entry T) → IsByNumber q → q e ≡ true
@@ -74,7 +74,7 @@ fault_of-filter {T = T} fault q before e by pass =
     ap (λ (o : Option T). cond (is_some o) (found fault e.place ∷ []) []) (filter-first q e before by pass)
 
 -- the faults of those that pass are faults of all
-among-all : {T : Type 0} (fault : DeckFault) (q : Entry T → Bool) (f : Found) (before es : List (Entry T)) → IsByNumber q
+among-all : {T : Type 0} (fault : DeckFault) (q : Entry T → Bool) (f : FoundFault) (before es : List (Entry T)) → IsByNumber q
     → IsOneOf f (twice fault (filter q before) (filter q es)) → IsOneOf f (twice fault before es)
 among-all fault q f before [] by is = is
 among-all {T = T} fault q f before (e ∷ es) by is =
@@ -86,7 +86,7 @@ among-all {T = T} fault q f before (e ∷ es) by is =
           let now : IsOneOf f (fault_of fault (filter q before) e ++ twice fault (filter q before ++ e ∷ []) (filter q es)) =
           subst (λ (xs : List (Entry T)). IsOneOf f (twice fault (filter q before) xs)) passed is in
           elim (apart-of f (fault_of fault (filter q before) e) (twice fault (filter q before ++ e ∷ []) (filter q es)) now) [
-            | inl here ↦ joined-left f mine later (subst (λ (fs : List Found). IsOneOf f fs) (fault_of-filter fault q before e by pass) here)
+            | inl here ↦ joined-left f mine later (subst (λ (fs : List FoundFault). IsOneOf f fs) (fault_of-filter fault q before e by pass) here)
             | inr rest ↦
                 joined-right f mine later (among-all fault q f (before ++ e ∷ []) es by
                 (subst (λ (xs : List (Entry T)). IsOneOf f (twice fault xs (filter q es))) (sym (filter-one q before e pass)) rest))
@@ -100,7 +100,7 @@ among-all {T = T} fault q f before (e ∷ es) by is =
     ]
 
 -- a fault of all is one of those that are told alike with the entry that has it
-with-alike : {T : Type 0} (fault : DeckFault) (f : Found) (before es : List (Entry T)) → IsOneOf f (twice fault before es)
+with-alike : {T : Type 0} (fault : DeckFault) (f : FoundFault) (before es : List (Entry T)) → IsOneOf f (twice fault before es)
     → (x : Entry T) × ((q : Entry T → Bool) → IsByNumber q → q x ≡ true → IsOneOf f (twice fault (filter q before) (filter q es)))
 with-alike fault f before [] is = absurd is
 with-alike {T = T} fault f before (e ∷ es) is =
@@ -112,7 +112,7 @@ with-alike {T = T} fault f before (e ∷ es) is =
         λ q by pass.
             let passed : filter q (e ∷ es) ≡ e ∷ filter q es = rw pass refl in
             let now : IsOneOf f (fault_of fault (filter q before) e) =
-            subst (λ (fs : List Found). IsOneOf f fs) (sym (fault_of-filter fault q before e by pass)) here in
+            subst (λ (fs : List FoundFault). IsOneOf f fs) (sym (fault_of-filter fault q before e by pass)) here in
             subst (λ (xs : List (Entry T)). IsOneOf f (twice fault (filter q before) xs)) (sym passed)
             (joined-left f (fault_of fault (filter q before) e) (twice fault (filter q before ++ e ∷ []) (filter q es)) now),
       )
@@ -139,21 +139,21 @@ with-alike {T = T} fault f before (e ∷ es) is =
 
 -- ---- the least of the same members
 
-not-before : (f g : Found) (fs : List Found) → NoneBefore number_of f fs → IsOneOf g fs → before number_of g f ≡ false
+not-before : (f g : FoundFault) (fs : List FoundFault) → NoneBefore number_of f fs → IsOneOf g fs → before number_of g f ≡ false
 not-before f g [] none is = absurd is
 not-before f g (x ∷ fs) none is =
     elim is [
-      | inl here ↦ ap (λ (h : Found). before number_of h f) here ∙ none.0
+      | inl here ↦ ap (λ (h : FoundFault). before number_of h f) here ∙ none.0
       | inr later ↦ not-before f g fs none.1 later
     ]
 
-one-first : (a b : Option Found) (fs gs : List Found) → IsFirst number_of a fs → IsFirst number_of b gs
-    → ((f : Found) → IsOneOf f fs → IsOneOf f gs) → ((f : Found) → IsOneOf f gs → IsOneOf f fs) → a ≡ b
+one-first : (a b : Option FoundFault) (fs gs : List FoundFault) → IsFirst number_of a fs → IsFirst number_of b gs
+    → ((f : FoundFault) → IsOneOf f fs → IsOneOf f gs) → ((f : FoundFault) → IsOneOf f gs → IsOneOf f fs) → a ≡ b
 one-first None None fs gs a_is b_is to from = refl
 one-first None (Some g) fs gs a_is b_is to from =
-    absurd (subst (λ (xs : List Found). IsOneOf g xs) a_is (from g b_is.0))
+    absurd (subst (λ (xs : List FoundFault). IsOneOf g xs) a_is (from g b_is.0))
 one-first (Some f) None fs gs a_is b_is to from =
-    absurd (subst (λ (xs : List Found). IsOneOf f xs) b_is (to f a_is.0))
+    absurd (subst (λ (xs : List FoundFault). IsOneOf f xs) b_is (to f a_is.0))
 one-first (Some f) (Some g) fs gs a_is b_is to from =
     let g_late = not-before f g fs a_is.1 (from g b_is.0) in
     let f_late = not-before g f gs b_is.1 (to f a_is.0) in
@@ -162,7 +162,8 @@ one-first (Some f) (Some g) fs gs a_is b_is to from =
     let turned : lesser (Some g) (Some f) ≡ lesser (Some f) (Some g) = least-between None (f ∷ []) (g ∷ []) [] in
     sym left ∙ sym turned ∙ right
 
-least-alike : (fs gs : List Found) → ((f : Found) → IsOneOf f fs → IsOneOf f gs) → ((f : Found) → IsOneOf f gs → IsOneOf f fs) → least fs ≡ least gs
+least-alike : (fs gs : List FoundFault) → ((f : FoundFault) → IsOneOf f fs → IsOneOf f gs) → ((f : FoundFault) → IsOneOf f gs → IsOneOf f fs)
+    → least fs ≡ least gs
 least-alike fs gs to from = one-first (least fs) (least gs) fs gs (least-first number_of fs) (least-first number_of gs) to from
 
 -- ---- a stable sort
@@ -194,7 +195,7 @@ first-stable-at xs ys p n None (Some v) ys_is xs_is stable = first-stable-some x
 pub first-stable : {T : Type 0} (xs ys : List (Entry T)) (p n : ℕ) → IsStableByKey key nat_cmp xs ys → first p n ys ≡ first p n xs
 first-stable xs ys p n stable = first-stable-at xs ys p n (first p n ys) (first p n xs) refl refl stable
 
-moved : {T : Type 0} (fault : DeckFault) (xs ys : List (Entry T)) (f : Found) → ((x : Entry T) → filter (alike x) ys ≡ filter (alike x) xs)
+moved : {T : Type 0} (fault : DeckFault) (xs ys : List (Entry T)) (f : FoundFault) → ((x : Entry T) → filter (alike x) ys ≡ filter (alike x) xs)
     → IsOneOf f (twice fault [] xs) → IsOneOf f (twice fault [] ys)
 moved {T = T} fault xs ys f stable is =
     let there = with-alike fault f [] xs is in

@@ -20,7 +20,7 @@ use Rattle.kdf_place.specs.declared.names.Entry.{Entry}
 use Rattle.kdf_place.specs.declared.names.Opening.{Opening}
 use Rattle.kdf_place.specs.Layout.{section_after, after, walked, next_order, front}
 use Rattle.kdf_place.specs.Late.{fault_in, value_faults, wrong, twice}
-use Rattle.kdf_place.specs.Names.{Names, names, first, part_opened, opening, openings, constant_at, constants, store_at, v_store, section_of, address}
+use Rattle.kdf_place.specs.Names.{Names, names, first, part_opened, opening, openings, constant_at, constants, store_at, v_store, section_of, store_address}
 use Rattle.kdf_place.specs.Placement.{words_of, syllables, first_word, value, with_constant, with_constants, words}
 use Rattle.kdf_place.specs.Stands.{is_address}
 use Rattle.kdf_place.proofs.Said.{says, both-true}
@@ -219,7 +219,7 @@ section-of-is (Some opening) x is = (opening, refl, cc)
 
 -- the address of a store that the deck declares is one of the image
 pub stand-store : (ss before behind : List Statement) (place : Named) (a : ℕ) → ss ≡ before ++ behind → is_address place ≡ false
-    → address (names ss) (walked front before).section place ≡ Ok a → a < length (words (names ss) ss)
+    → store_address (names ss) (walked front before).section place ≡ Ok a → a < length (words (names ss) ss)
 stand-store ss before behind (E n) a e other is = absurd cc
 stand-store ss before behind (Y group n) a e other is =
     let m = names ss in

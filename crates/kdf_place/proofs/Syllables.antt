@@ -15,7 +15,7 @@ use Rattle.kdf_usercode.specs.WellFormed.{IsWhat, AreInRange}
 use Rattle.kdf_place.specs.declared.here.Here.{Here}
 use Rattle.kdf_place.specs.declared.here.Section.{Section}
 use Rattle.kdf_place.specs.Layout.{round_up, stores, after}
-use Rattle.kdf_place.specs.Names.{Names, address, syllable_of, first_order}
+use Rattle.kdf_place.specs.Names.{Names, store_address, syllable_of, first_order}
 use Rattle.kdf_place.specs.Placement.{number, syllable_number, jump_target, order_of, spelt, filling, syllables_of, syllables, words_of, first_word, start_of}
 use Rattle.kdf_place.specs.Stands.{syllable_at}
 
@@ -57,12 +57,12 @@ target_of-below at = target-below (syllable_number at) (syllable_number-below at
 bytes-spelt : (names : Names) (section : Section) (what : What) → IsWhat what → AreBytes (spelt (order_of names section what))
 bytes-spelt names section (Plain order) is = spelling-below order is.0
 bytes-spelt names section (Fetch place q u) is =
-    let a = number (address names section place) % 2 ^ 15 in
+    let a = number (store_address names section place) % 2 ^ 15 in
     spelling-below (orders.Direct false u q a) (is.1, omega arith)
 bytes-spelt names section (Keep place q u) is =
-    let a = number (address names section place) % 2 ^ 15 in
+    let a = number (store_address names section place) % 2 ^ 15 in
     spelling-below (orders.Direct true u q a) (is.1, omega arith)
-bytes-spelt names section (SetAddress place) is = spelling-below (orders.Set (number (address names section place) % 2 ^ 16)) (omega arith)
+bytes-spelt names section (SetAddress place) is = spelling-below (orders.Set (number (store_address names section place) % 2 ^ 16)) (omega arith)
 bytes-spelt names section (Go c target) is =
     let at = number (syllable_of names section target) in
     spelling-below (orders.Jump c (jump_target (syllable_number at))) (is.0, target_of-below at)

@@ -9,7 +9,7 @@ use Rattle.kdf_usercode.specs.declared.stars.Stars.TheVariants.{Every, AfterStar
 use Rattle.kdf_usercode.specs.declared.statement.Statement.{Statement}
 use Rattle.kdf_usercode.specs.declared.statement.What.{What}
 use Rattle.kdf_usercode.specs.declared.statement.What.TheVariants.{Star}
-use Rattle.kdf_usercode.specs.Faults.{Found, found, least}
+use Rattle.kdf_usercode.specs.Faults.{FoundFault, found, least}
 use Rattle.kdf_usercode.specs.Grammar.{early, statements}
 use Rattle.kdf_usercode.specs.Grammar.{verdict as deck_verdict}
 use Rattle.kdf_usercode.specs.Reading.{Gives as ReadGives}
@@ -64,7 +64,7 @@ alike-more here s xs ys a =
       stores = ap (λ (es : List (Entry (Unit {0}))). constant_at s.what here.section s.place ++ es) a.stores;
       ending = a.ending;
       counts = λ g. a.counts (with_group g s.what);
-      faults = λ names. ap (λ (fs : List Found). map (λ fault. found fault s.place) (wrong names here s.what) ++ fs) (a.faults names);
+      faults = λ names. ap (λ (fs : List FoundFault). map (λ fault. found fault s.place) (wrong names here s.what) ++ fs) (a.faults names);
       bytes = λ names. ap (λ (bs : List ℕ). syllables_of names here s.what ++ bs) (a.bytes names);
       filled = λ names ws. a.filled names (with_constant names here.section s.what ws);
     }
@@ -129,13 +129,13 @@ same-names xs ys a =
 
 same-faults : (xs ys : List Statement) → Alike front xs ys → late_faults xs ≡ late_faults ys
 same-faults xs ys a =
-    let all : List (Entry Opening) → List (Entry Mark) → List (Entry (Unit {0})) → List Found → List Found =
+    let all : List (Entry Opening) → List (Entry Mark) → List (Entry (Unit {0})) → List FoundFault → List FoundFault =
     λ os ls cs fs. twice PartTwice [] os ++ twice ReferenceTwice [] ls ++ twice VRange [] cs ++ fs in
     let found_there = ap (λ (n : Names). wrongs n front xs) (same-names xs ys a) ∙ a.faults (names ys) in
     ap (λ (os : List (Entry Opening)). all os (labels front xs) (constants front xs) (wrongs (names xs) front xs)) a.parts
     ∙ ap (λ (ls : List (Entry Mark)). all (openings front ys) ls (constants front xs) (wrongs (names xs) front xs)) a.marks
     ∙ ap (λ (cs : List (Entry (Unit {0}))). all (openings front ys) (labels front ys) cs (wrongs (names xs) front xs)) a.stores
-    ∙ ap (λ (fs : List Found). all (openings front ys) (labels front ys) (constants front ys) fs) found_there
+    ∙ ap (λ (fs : List FoundFault). all (openings front ys) (labels front ys) (constants front ys) fs) found_there
 
 same-words : (xs ys : List Statement) (m : Names) → Alike front xs ys → words m xs ≡ words m ys
 same-words xs ys m a =
@@ -158,12 +158,12 @@ unfolding placed
 placed-thinned ss len size =
     let xs = thinned AfterOther ss in
     let a = alike AfterOther front ss tt in
-    ap (λ (fs : List Found). verdict (least fs) (sized (picture_of xs) len size)) (same-faults xs ss a)
+    ap (λ (fs : List FoundFault). verdict (least fs) (sized (picture_of xs) len size)) (same-faults xs ss a)
     ∙ ap (λ (p : Picture). verdict (least (late_faults ss)) (sized p len size)) (same-picture xs ss a)
 
 -- ---- the text
 
-verdict-thinned : (first : Option Found) (ss : List Statement) (len size : ℕ)
+verdict-thinned : (first : Option FoundFault) (ss : List Statement) (len size : ℕ)
     → placed_if_read (deck_verdict first (thinned AfterOther ss)) len size ≡ placed_if_read (deck_verdict first ss) len size
 verdict-thinned None ss len size = placed-thinned ss len size
 verdict-thinned (Some f) ss len size = refl
@@ -177,11 +177,11 @@ assembled-thinned size text = verdict-thinned (early text) (statements text) (le
 pub assembled-read : (size len : ℕ) (text : List ℕ) (ss : List Statement) → thinned_deck AfterOther text ≡ Ok ss → len ≡ length text
     → placed ss len size ≡ assembled size text
 assembled-read size len text ss read long =
-    ap (λ (n : ℕ). placed ss n size) long ∙ sym (ap (λ (d : Result (List Statement) Found). placed_if_read d (length text) size) read)
+    ap (λ (n : ℕ). placed ss n size) long ∙ sym (ap (λ (d : Result (List Statement) FoundFault). placed_if_read d (length text) size) read)
     ∙ assembled-thinned size text
 
 pub assembled-unread : (size : ℕ) (text : List ℕ) (e : DeckError) → ReadGives (Err e) (length text) (thinned_deck AfterOther text)
     → Gives (Err e) (assembled size text)
 assembled-unread size text errors.Memory h = tt
 assembled-unread size text (errors.Fault fault place) h =
-    sym (assembled-thinned size text) ∙ ap (λ (d : Result (List Statement) Found). placed_if_read d (length text) size) h
+    sym (assembled-thinned size text) ∙ ap (λ (d : Result (List Statement) FoundFault). placed_if_read d (length text) size) h

@@ -6,7 +6,7 @@ use Rattle.kdf_usercode.specs.declared.fault.DeckFault.TheVariants.{VRange}
 use Rattle.kdf_usercode.specs.declared.statement.Statement.{Statement}
 use Rattle.kdf_usercode.specs.declared.statement.What.{What}
 use Rattle.kdf_usercode.specs.declared.statement.What.TheVariants.{Program, Part, Constant}
-use Rattle.kdf_usercode.specs.Faults.{Found, found}
+use Rattle.kdf_usercode.specs.Faults.{FoundFault, found}
 use Rattle.kdf_place.specs.declared.here.Here.{Here}
 use Rattle.kdf_place.specs.declared.here.Section.{Section}
 use Rattle.kdf_place.specs.Layout.{section_after, after, walked}
@@ -45,7 +45,7 @@ pub untouched-later : (names : Names) (here : Here) (ss : List Statement) (ws : 
     → Misses here.section w → 6 * w < here.at → get_or (with_constants names here ss ws) w 0 ≡ get_or ws w 0
 untouched-later names here [] ws w ok misses low = refl
 untouched-later names here (s ∷ ss) ws w ok misses low =
-    let founds : List Found = map (λ fault. found fault s.place) (wrong names here s.what) in
+    let founds : List FoundFault = map (λ fault. found fault s.place) (wrong names here s.what) in
     let both = nil-both founds (wrongs names (after here s) ss) ok in
     untouched-later names (after here s) ss (with_constant names here.section s.what ws) w both.1
     (misses-after here s.place s.what w misses low) (omega (arith, low, after-above names here s))
@@ -57,7 +57,7 @@ pub untouched-before : (names : Names) (here : Here) (ss : List Statement) (ws :
     → get_or (with_constants names here ss ws) w 0 ≡ get_or ws w 0
 untouched-before names here [] ws w ok end high = refl
 untouched-before names here (s ∷ ss) ws w ok end high =
-    let founds : List Found = map (λ fault. found fault s.place) (wrong names here s.what) in
+    let founds : List FoundFault = map (λ fault. found fault s.place) (wrong names here s.what) in
     let both = nil-both founds (wrongs names (after here s) ss) ok in
     let above = walked-above names (after here s) ss in
     let step = after-above names here s in

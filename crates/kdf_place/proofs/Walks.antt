@@ -4,7 +4,7 @@ use Rattle.kdf_usercode.specs.declared.fault.DeckFault.{DeckFault}
 use Rattle.kdf_usercode.specs.declared.statement.Statement.{Statement}
 use Rattle.kdf_usercode.specs.declared.statement.What.{What}
 use Rattle.kdf_usercode.specs.declared.statement.What.TheVariants.{Program, Part}
-use Rattle.kdf_usercode.specs.Faults.{Found, found}
+use Rattle.kdf_usercode.specs.Faults.{FoundFault, found}
 use Rattle.kdf_usercode.specs.WellFormed.{AreInRange}
 use Rattle.kdf_place.specs.declared.here.Here.{Here}
 use Rattle.kdf_place.specs.declared.names.Entry.{Entry}
@@ -45,10 +45,10 @@ pub wrongs-append : (names : Names) (here : Here) (before behind : List Statemen
     → wrongs names here (before ++ behind) ≡ wrongs names here before ++ wrongs names (walked here before) behind
 wrongs-append names here [] behind = refl
 wrongs-append names here (s ∷ before) behind =
-    let first : List Found = map (λ fault. found fault s.place) (wrong names here s.what) in
+    let first : List FoundFault = map (λ fault. found fault s.place) (wrong names here s.what) in
     let rest = wrongs names (after here s) before in
     let later = wrongs names (walked (after here s) before) behind in
-    ap (λ (fs : List Found). first ++ fs) (wrongs-append names (after here s) before behind) ∙ sym (append_assoc first rest later)
+    ap (λ (fs : List FoundFault). first ++ fs) (wrongs-append names (after here s) before behind) ∙ sym (append_assoc first rest later)
 
 pub constants-append : (names : Names) (here : Here) (before behind : List Statement) (ws : List ℕ)
     → with_constants names here (before ++ behind) ws ≡ with_constants names (walked here before) behind (with_constants names here before ws)

@@ -124,10 +124,10 @@ y_store names group n =
     store_at base (get_or names.groups group 0) YRange n
 
 -- the address that a store has in this part
-abbrev pub address : Names → Section → Named → Result ℕ DeckFault
-address names section (Y group n) = y_store names group n
-address names section (V n p) = v_store (section_named names section p) n
-address names section (E n) = Ok n
+abbrev pub store_address : Names → Section → Named → Result ℕ DeckFault
+store_address names section (Y group n) = y_store names group n
+store_address names section (V n p) = v_store (section_named names section p) n
+store_address names section (E n) = Ok n
 
 abbrev pub found_mark : Option Mark → Result ℕ DeckFault
 found_mark None = Err ReferenceMissing

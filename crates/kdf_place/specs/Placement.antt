@@ -16,7 +16,7 @@ use Rattle.kdf_usercode.specs.declared.statement.Value.{Value}
 use Rattle.kdf_usercode.specs.declared.statement.Value.TheVariants.{Number, Triple}
 use Rattle.kdf_usercode.specs.declared.statement.What.{What}
 use Rattle.kdf_usercode.specs.declared.statement.What.TheVariants.{Program, Part, Constant, Star, Plain, Fetch, Keep, Go, Short, SetAddress}
-use Rattle.kdf_usercode.specs.Faults.{Found, found, least}
+use Rattle.kdf_usercode.specs.Faults.{FoundFault, found, least}
 use Rattle.kdf_place.specs.declared.here.Here.{Here}
 use Rattle.kdf_place.specs.declared.here.Section.{Section}
 use Rattle.kdf_place.specs.declared.image.Image.{Image}
@@ -24,7 +24,7 @@ use Rattle.kdf_place.specs.declared.image.Label.{Label}
 use Rattle.kdf_place.specs.declared.names.Entry.{Entry}
 use Rattle.kdf_place.specs.declared.names.Mark.{Mark}
 use Rattle.kdf_place.specs.Layout.{stores, round_up, after, front}
-use Rattle.kdf_place.specs.Names.{labels, Names, names, address, first_order, syllable_of}
+use Rattle.kdf_place.specs.Names.{labels, Names, names, store_address, first_order, syllable_of}
 use Rattle.kdf_place.specs.Late.{late_faults}
 
 -- a number that was found; in a deck without a fault each one is
@@ -46,11 +46,11 @@ jump_target at = 8192 * (at % 6) + at / 6
 abbrev pub order_of : Names → Section → What → Option Order
 order_of names section (Plain order) = Some order
 order_of names section (Fetch place q u) =
-    Some (orders.Direct false u q (number (address names section place) % 2 ^ 15))
+    Some (orders.Direct false u q (number (store_address names section place) % 2 ^ 15))
 order_of names section (Keep place q u) =
-    Some (orders.Direct true u q (number (address names section place) % 2 ^ 15))
+    Some (orders.Direct true u q (number (store_address names section place) % 2 ^ 15))
 order_of names section (SetAddress place) =
-    Some (orders.Set (number (address names section place) % 2 ^ 16))
+    Some (orders.Set (number (store_address names section place) % 2 ^ 16))
 order_of names section (Go c target) =
     Some (orders.Jump c (jump_target (syllable_number (number (syllable_of names section target)))))
 order_of names section (Short r q) = Some (orders.Single 0x6f q)
@@ -85,7 +85,7 @@ words_of rest = []
 
 abbrev pub item : Names → Section → Item → ℕ
 item names section (Bits bits) = bits
-item names section (Address place) = number (address names section place) % 2 ^ 16
+item names section (Address place) = number (store_address names section place) % 2 ^ 16
 
 -- a Q-store has C in its first 16 bits, I in the next and M in the last
 abbrev pub value : Names → Section → Value → ℕ
@@ -137,16 +137,16 @@ picture_of ss = record {
 
 -- ---- the answer
 
-abbrev pub sized : Picture → ℕ → ℕ → Result Picture Found
+abbrev pub sized : Picture → ℕ → ℕ → Result Picture FoundFault
 sized picture len size =
     if nat_lt size (length picture.words) then Err (found TooLarge len) else Ok picture
 
-abbrev pub verdict : Option Found → Result Picture Found → Result Picture Found
+abbrev pub verdict : Option FoundFault → Result Picture FoundFault → Result Picture FoundFault
 verdict None rest = rest
 verdict (Some f) rest = Err f
 
 -- the image of a deck of so many bytes for a store of so many words, or the first fault
-unfoldable pub placed : List Statement → ℕ → ℕ → Result Picture Found
+unfoldable pub placed : List Statement → ℕ → ℕ → Result Picture FoundFault
 placed ss len size = verdict (least (late_faults ss)) (sized (picture_of ss) len size)
 
 -- what an image shows
@@ -158,7 +158,7 @@ shown_image image = record {
 }
 
 -- what a function returned is this, unless memory ran out
-abbrev pub Gives : Result Image DeckError → Result Picture Found → Type 0
+abbrev pub Gives : Result Image DeckError → Result Picture FoundFault → Type 0
 Gives (Ok image) due = due ≡ Ok (shown_image image)
 Gives (Err errors.Memory) due = Unit {0}
 Gives (Err (errors.Fault fault place)) due = due ≡ Err (found fault place)

@@ -11,7 +11,7 @@ use Rattle.kdf_usercode.specs.declared.statement.Value.{Value}
 use Rattle.kdf_usercode.specs.declared.statement.What.{What}
 use Rattle.kdf_usercode.specs.declared.statement.What.TheVariants.{Star, Reference, Constant}
 use Rattle.kdf_place.specs.Layout.{is_order, is_opening, round_up, walked, front}
-use Rattle.kdf_place.specs.Names.{part_opened, names, address as address_of, reference, first_order}
+use Rattle.kdf_place.specs.Names.{part_opened, names, store_address, reference, first_order}
 use Rattle.kdf_place.specs.Late.{wrong}
 use Rattle.kdf_place.specs.Placement.{order_of, jump_target, value, Picture}
 
@@ -96,7 +96,7 @@ pub record IsLaidOut (ss : List Statement) (image : Picture) : Type 0 where
   -- a store that is named in a part, but for a bare address, is one of the image
   pub stores : (before behind : List Statement) (place : Named) (address : ℕ)
       → ss ≡ before ++ behind → is_address place ≡ false
-      → address_of (names ss) (walked front before).section place ≡ Ok address
+      → store_address (names ss) (walked front before).section place ≡ Ok address
       → address < length image.words
   -- word 0 begins with a jump to the start
   pub start : Stand image.words 0 (spelling (Jump 0x20 (jump_target image.start)))

@@ -1,6 +1,6 @@
 //! What the names of a deck mean.
 ghost use Rattle.std.specs.Prelude.{◌≡◌, ◌==◌, ◌&&◌, ◌≤◌, ◌<◌, ◌^◌, length, sum, take};
-ghost use Rattle.kdf_place.specs.Names.{store_at, v_store, y_store, section_named, address, reference, first_order, syllable_of};
+ghost use Rattle.kdf_place.specs.Names.{store_at, v_store, y_store, section_named, store_address, reference, first_order, syllable_of};
 ghost use Rattle.kdf_place.specs.Tables.{meaning, kept};
 
 use crate::here::Section;
@@ -136,7 +136,7 @@ impl Meanings {
 
     /// The address that a store has in this part.
     pub fn address(&self, section: Section, place: Named) -> Result<u64, DeckFault>
-        ensures { result ≡ kept (address (meaning self.now) section place) }
+        ensures { result ≡ kept (store_address (meaning self.now) section place) }
     {
         match place {
             Named::Y { group, n } => self.y_store(group, n),

@@ -3,7 +3,7 @@ ghost use Rattle.std.specs.Prelude.{◌≡◌, ◌≤◌, ◌<◌, ◌+◌, ◌*
 ghost use Rattle.kdf_syllable.specs.Spelling.{IsOrder, spelling};
 ghost use Rattle.kdf_usercode.specs.WellFormed.{IsWhat, AreInRange};
 ghost use Rattle.kdf_place.specs.Layout.{stores, front};
-ghost use Rattle.kdf_place.specs.Names.{address, syllable_of};
+ghost use Rattle.kdf_place.specs.Names.{store_address, syllable_of};
 ghost use Rattle.kdf_place.specs.Placement.{number, syllable_number, jump_target, order_of, spelt, filling, syllables_of, syllables, start_of, first_word};
 ghost use Rattle.kdf_place.specs.Tables.{meaning, kept};
 
@@ -48,7 +48,7 @@ fn jump_target(at: u16) -> u16
 
 /// The address that a store has in this part, in its last 16 bits.
 pub fn address_of(meanings: &Meanings, section: Section, place: Named) -> u16
-    ensures { result ≡ number (address (meaning meanings.now) section place) % 2 ^ 16 }
+    ensures { result ≡ number (store_address (meaning meanings.now) section place) % 2 ^ 16 }
 {
     (number(meanings.address(section, place)) % 65536) as u16
 }
@@ -64,7 +64,7 @@ fn target_of(meanings: &Meanings, section: Section, target: Target) -> u16
 
 /// The address of a store as a fetch or a keep has it: its last 15 bits.
 fn store_of(meanings: &Meanings, section: Section, place: Named) -> u16
-    ensures value { result ≡ number (address (meaning meanings.now) section place) % 2 ^ 15 }
+    ensures value { result ≡ number (store_address (meaning meanings.now) section place) % 2 ^ 15 }
     ensures small { result < 2 ^ 15 }
 {
     address_of(meanings, section, place) % 0x8000

@@ -4,7 +4,7 @@ use Rattle.std.specs.Option.{option_map}
 use Rattle.kdf_lockout.specs.Groups.{Lent}
 use Rattle.kdf_journal.specs.declared.kind.Kind.{Kind}
 use Rattle.kdf_journal.specs.declared.kind.Kind.TheVariants.{Tr}
-use Rattle.kdf_transfer.specs.Devices.{Fixture, Progress, blank_fixture, fixture_of, kind_in, new_progress, progress_of}
+use Rattle.kdf_transfer.specs.Devices.{Fixture, DeviceProgress, blank_fixture, fixture_of, kind_in, new_progress, progress_of}
 use Rattle.kdf_transfer.specs.InFlight.{Motion}
 use Rattle.kdf_transfer.specs.Spare.{HasSpare}
 use Rattle.kdf_transfer.specs.declared.order.TransferOrder.{TransferOrder}
@@ -20,7 +20,7 @@ pub record Held : Type 0 where
 -- a place: the device, as it was at the begin where it has a transfer
 pub record Spot : Type 0 where
   pub fixture : Option Fixture
-  pub progress : Progress
+  pub progress : DeviceProgress
   pub flight : Option Held
 
 abbrev pub no_spot : Spot

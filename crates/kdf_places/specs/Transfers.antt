@@ -4,7 +4,7 @@ use Rattle.kdf_lockout.specs.Groups.{Cells, Lent, without_groups, lent_groups, f
 use Rattle.kdf_lockout.specs.Groups as groups
 use Rattle.kdf_transfer.specs.declared.order.TransferOrder.{TransferOrder}
 use Rattle.kdf_transfer.specs.AtOnce.{is_input, has_area, addressed}
-use Rattle.kdf_transfer.specs.InFlight.{Motion, moved_by, words_of, total_of, ended_progress}
+use Rattle.kdf_transfer.specs.InFlight.{Motion, moved_by, words_in_flight, total_of, ended_progress}
 use Rattle.kdf_places.specs.Spots.{Held, Spot, spot_at, fixture_or}
 use Rattle.kdf_places.specs.Shared.{Shared}
 
@@ -89,5 +89,5 @@ after_end d s =
 abbrev pub flight_moves : ℕ → ℕ → Motion → List (ℕ × ℕ)
 flight_moves base n t =
     if is_input t.order
-    then take n (drop t.moved (addressed t.order (t.first - base) (t.last - base) (words_of t)))
+    then take n (drop t.moved (addressed t.order (t.first - base) (t.last - base) (words_in_flight t)))
     else []

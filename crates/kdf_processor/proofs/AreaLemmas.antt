@@ -6,7 +6,7 @@ use Rattle.std.proofs.lemmas.Bool.{or_parts, cases_Bool, cases_eq, false≢true,
 use Rattle.std.proofs.lemmas.List.{get_or-set_other, length-set, ext_get_or, get_or-take, get_or-drop, length-take, length-drop}
 use Rattle.kdf_transfer.specs.AtOnce.{is_input, is_output, is_backward, has_area, given, offered, moved_words, at_addresses, down_addresses, addressed, moves}
 use Rattle.kdf_transfer.specs.AtOnce.{written, order_words, stored}
-use Rattle.kdf_transfer.specs.Devices.{Fixture, Progress}
+use Rattle.kdf_transfer.specs.Devices.{Fixture, DeviceProgress}
 use Rattle.kdf_transfer.specs.declared.order.TransferOrder.{TransferOrder}
 use Rattle.kdf_transfer.proofs.Areas.{input_has}
 use Rattle.kdf_transfer.proofs.Stopping.{stopped-le}
@@ -123,7 +123,7 @@ addressed_apart o first last ws a few out = at (is_backward o)
     at true = down_addresses_apart last ws a (omega arith) (λ low high. out (omega arith) high)
     at false = at_addresses_apart first ws a (λ low high. out low (omega arith))
 
-module _ (o : TransferOrder) (first last : ℕ) (f : Fixture) (p : Progress) where
+module _ (o : TransferOrder) (first last : ℕ) (f : Fixture) (p : DeviceProgress) where
   -- the words that an input order moves are as many as its area has at most
   few_moved : (words : List ℕ) → is_input o ≡ true → length (moved_words o first last words f p) ≤ last + 1 - first
   unfolding offered

@@ -17,7 +17,7 @@ use Rattle.kdf_transfer.specs.declared.order.TransferOrder.{TransferOrder}
 use Rattle.kdf_processor.specs.declared.registers.Registers.{Registers}
 use Rattle.kdf_transfer.specs.declared.test.Test.TheVariants.{Flag, Start, Mark}
 use Rattle.kdf_transfer.specs.declared.wanted.Wanted.TheVariants.{Kinded, Labelled}
-use Rattle.kdf_processor.specs.Claims.{claim, free_for, is_claimed, is_free, kind_numbered, may_take, taken}
+use Rattle.kdf_processor.specs.Claims.{claim, free_for, is_claimed, is_free, kind_numbered, may_take, taken_device}
 use Rattle.kdf_processor.proofs.Frees.{none_of_kind}
 use Rattle.kdf_transfer.specs.Devices.{Fixture, is_kind, is_wanted}
 use Rattle.kdf_transfer.specs.declared.wanted.Wanted.{Wanted}
@@ -138,7 +138,7 @@ found_fit c r rest (Some d) own = own d refl
 takes_fit : (c : Claims) (r : Registers) (rest : List ℕ) (kind : Kind) (o : Option ℕ) → ((d : ℕ) → o ≡ Some d → is_some (own_fixture_at c d) ≡ true)
     → IsFit c (claims_or_takes c r rest kind o)
 takes_fit c r rest kind (Some d) own = own d refl
-takes_fit c r rest kind None own = either_fit c (may_take c kind) (Asking (FreeOf kind) (λ a. with_nest 1 (taken c kind a ∷ rest) r)) (Failing Claim)
+takes_fit c r rest kind None own = either_fit c (may_take c kind) (Asking (FreeOf kind) (λ a. with_nest 1 (taken_device c kind a ∷ rest) r)) (Failing Claim)
     (λ is. is) tt
 
 kind_fit : (c : Claims) (r : Registers) (rest : List ℕ) (o : Option Kind) → IsFit c (claims_kind c r rest o)

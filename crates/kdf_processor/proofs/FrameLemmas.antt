@@ -19,11 +19,11 @@ use Rattle.kdf_processor.specs.declared.step.Need.{Need}
 use Rattle.kdf_processor.specs.declared.step.Need.TheVariants.{Group, Device}
 use Rattle.kdf_processor.specs.declared.registers.Registers.{Registers}
 use Rattle.kdf_processor.specs.declared.spooled.Spooled.{Spooled}
-use Rattle.kdf_processor.specs.State.{State, Claims, Stint, word_at, device_at, fixture_at}
-use Rattle.kdf_processor.specs.Claims.{taken}
+use Rattle.kdf_processor.specs.State.{State, Claims, StintState, word_at, device_at, fixture_at}
+use Rattle.kdf_processor.specs.Claims.{taken_device}
 use Rattle.kdf_processor.specs.Effect.{Question, FreeOf, Effect, Failing, Ending, Changing, Fetching, Keeping, Testing, Starting, Asking, Claiming, Returning}
 use Rattle.kdf_processor.specs.Effect.{Spooling}
-use Rattle.kdf_processor.specs.Table.{on}
+use Rattle.kdf_processor.specs.Table.{syllable_after}
 use Rattle.kdf_processor.specs.Needs.{group_of, decoded_or_none, effect_or_liv, syllable_at, syllables, syllable_needs, count_at, fetch_needs, effect_at}
 use Rattle.kdf_processor.specs.Needs.{effect_needs, next_effect, needs}
 use Rattle.kdf_processor.specs.Outcome.{counted}
@@ -77,10 +77,10 @@ answered_agree : (hidden : Need → Bool) (question : Question) (a : ℕ) (r r' 
 answered_agree hidden (FreeOf kind) a r r' s t e h =
     record {
       registers = e;
-      claims = ap (λ (c : Claims). record c { claimed = set c.claimed (taken c kind a) true }) h.claims;
+      claims = ap (λ (c : Claims). record c { claimed = set c.claimed (taken_device c kind a) true }) h.claims;
       spooled = h.spooled;
       asked = ap (λ n. n + 1) h.asked;
-      stints = ap₂ (λ (c : Claims) (xs : List Stint). xs ++ record { device = taken c kind a; left = None } ∷ []) h.claims h.stints;
+      stints = ap₂ (λ (c : Claims) (xs : List StintState). xs ++ record { device = taken_device c kind a; left = None } ∷ []) h.claims h.stints;
       size = h.size;
       number = h.number;
       words = h.words;
@@ -121,7 +121,7 @@ released_agree hidden true d r r' s t e h free =
       claims = ap (λ (c : Claims). record c { claimed = set c.claimed d false }) h.claims;
       spooled = h.spooled;
       asked = h.asked;
-      stints = ap₂ (λ p (xs : List Stint). map (handed d p) xs) (h.devices d free) h.stints;
+      stints = ap₂ (λ p (xs : List StintState). map (handed d p) xs) (h.devices d free) h.stints;
       size = h.size;
       number = simp (length-set, h.number);
       words = h.words;
@@ -311,13 +311,15 @@ module _ (hidden : Need → Bool) (s t : State) (h : Agrees hidden s t) where
   syllables_agree (suc n) size at none =
       ⊎_elim
       (λ (inside : ltb (at / 6) size ≡ true).
-      let parts = or_parts _ _ (subst (λ b. list_any hidden (cond b (Group (group_of (at / 6)) ∷ syllable_needs n size (on at 1)) []) ≡ false) inside none) in
-      ap (λ b. cond b (option_map (λ rest. syllable_at (word_at s) at ∷ rest) (syllables n size (word_at s) (on at 1))) None) inside
-      ∙ ap₂ (λ w rest. option_map (λ more. syllable w (at % 6) ∷ more) rest) (h.words (at / 6) parts.0) (syllables_agree n size (on at 1) parts.1)
-      ∙ sym (ap (λ b. cond b (option_map (λ rest. syllable_at (word_at t) at ∷ rest) (syllables n size (word_at t) (on at 1))) None) inside))
+      let parts =
+      or_parts _ _ (subst (λ b. list_any hidden (cond b (Group (group_of (at / 6)) ∷ syllable_needs n size (syllable_after at 1)) []) ≡ false) inside none)
+      in
+      ap (λ b. cond b (option_map (λ rest. syllable_at (word_at s) at ∷ rest) (syllables n size (word_at s) (syllable_after at 1))) None) inside
+      ∙ ap₂ (λ w rest. option_map (λ more. syllable w (at % 6) ∷ more) rest) (h.words (at / 6) parts.0) (syllables_agree n size (syllable_after at 1) parts.1)
+      ∙ sym (ap (λ b. cond b (option_map (λ rest. syllable_at (word_at t) at ∷ rest) (syllables n size (word_at t) (syllable_after at 1))) None) inside))
       (λ (outside : ltb (at / 6) size ≡ false).
-      ap (λ b. cond b (option_map (λ rest. syllable_at (word_at s) at ∷ rest) (syllables n size (word_at s) (on at 1))) None) outside
-      ∙ sym (ap (λ b. cond b (option_map (λ rest. syllable_at (word_at t) at ∷ rest) (syllables n size (word_at t) (on at 1))) None) outside))
+      ap (λ b. cond b (option_map (λ rest. syllable_at (word_at s) at ∷ rest) (syllables n size (word_at s) (syllable_after at 1))) None) outside
+      ∙ sym (ap (λ b. cond b (option_map (λ rest. syllable_at (word_at t) at ∷ rest) (syllables n size (word_at t) (syllable_after at 1))) None) outside))
       (cases_Bool (ltb (at / 6) size))
 
   -- the same number of syllables
@@ -349,7 +351,7 @@ first_apart : (hidden : Need → Bool) (size : ℕ) (word : ℕ → ℕ) (at : �
 first_apart hidden size word at inside none =
     let n = count_more size word at inside in
     let by_count = subst (λ k. HidesNone hidden (syllable_needs k size at)) n.1 none in
-    (or_parts _ _ (subst (λ b. HidesNone hidden (cond b (Group (group_of (at / 6)) ∷ syllable_needs n.0 size (on at 1)) [])) inside by_count)).0
+    (or_parts _ _ (subst (λ b. HidesNone hidden (cond b (Group (group_of (at / 6)) ∷ syllable_needs n.0 size (syllable_after at 1)) [])) inside by_count)).0
 
 -- the next orders of two states that agree have the same syllables, and do the same
 module _ (hidden : Need → Bool) (s t : State) (h : Agrees hidden s t) (none : HidesNone hidden (fetch_needs s.stock.claims.size (word_at s) s.registers.at))
@@ -425,8 +427,8 @@ found_first : (wanted : Need → Bool) (size : ℕ) (word : ℕ → ℕ) (at : �
 found_first wanted size word at rest inside is =
     let n = count_more size word at inside in
     ap (λ k. find wanted (syllable_needs k size at ++ rest)) n.1
-    ∙ ap (λ b. find wanted (cond b (Group (group_of (at / 6)) ∷ syllable_needs n.0 size (on at 1)) [] ++ rest)) inside
-    ∙ ap (λ b. cond b (Some (Group (group_of (at / 6)))) (find wanted (syllable_needs n.0 size (on at 1) ++ rest))) is
+    ∙ ap (λ b. find wanted (cond b (Group (group_of (at / 6)) ∷ syllable_needs n.0 size (syllable_after at 1)) [] ++ rest)) inside
+    ∙ ap (λ b. cond b (Some (Group (group_of (at / 6)))) (find wanted (syllable_needs n.0 size (syllable_after at 1) ++ rest))) is
 
 none_outside : (wanted : Need → Bool) (size : ℕ) (word : ℕ → ℕ) (at : ℕ) → ltb (at / 6) size ≡ false → list_any wanted (fetch_needs size word at) ≡ false
 none_outside wanted size word at outside =

@@ -11,17 +11,17 @@ use Rattle.kdf_journal.specs.declared.kind.Kind.{Kind}
 use Rattle.kdf_journal.specs.declared.kind.Kind.TheVariants.{Mt}
 use Rattle.kdf_syllable.specs.declared.order.Order.{Order}
 use Rattle.kdf_transfer.specs.AtOnce.{kind_of, has_area}
-use Rattle.kdf_transfer.specs.Devices.{Fixture, Progress, is_kind, new_progress}
+use Rattle.kdf_transfer.specs.Devices.{Fixture, DeviceProgress, is_kind, new_progress}
 use Rattle.kdf_transfer.specs.declared.order.TransferOrder.{TransferOrder}
 use Rattle.kdf_processor.specs.declared.registers.Registers.{Registers}
 use Rattle.kdf_transfer.specs.declared.test.Test.TheVariants.{Flag, Start, Mark}
-use Rattle.kdf_processor.specs.Claims.{can_take, claim, is_claimed, kind_at, taken}
+use Rattle.kdf_processor.specs.Claims.{can_take, claim, is_claimed, kind_at, taken_device}
 use Rattle.kdf_processor.specs.Effect.{Question, FreeOf, Change, Refused, Going, of_change, Effect, Failing, Ending, Changing, Fetching, Keeping, Testing}
 use Rattle.kdf_processor.specs.Effect.{Starting, Asking, IsBusy, IsOut, Time, OfService, Claiming, Returning, Spooling}
 use Rattle.kdf_processor.specs.Needs.{effect_at, effect_or_liv, next_effect, order_at}
 use Rattle.kdf_processor.specs.Row.{answered, handed, perform, released, row, transferred}
 use Rattle.kdf_transfer.specs.Slots.{Slot}
-use Rattle.kdf_processor.specs.State.{Claims, State, Stint, Stock, begin, stocked, unclaimed, device_in, device_limit, fixture_at, is_pooled, pool_kind_at}
+use Rattle.kdf_processor.specs.State.{Claims, State, StintState, Stock, begin, stocked, unclaimed, device_in, device_limit, fixture_at, is_pooled, pool_kind_at}
 use Rattle.kdf_processor.specs.State.{word_at}
 use Rattle.kdf_processor.specs.Stints.{HasPool, IsLent}
 use Rattle.kdf_processor.specs.Table.{effect, guarded, is_area}
@@ -148,7 +148,7 @@ module _ (s : State) (lent : IsLent s) where
       }
 
   -- one of the pool is taken
-  pub taken_lent : (r : Registers) (kind : Kind) (a : ℕ) → can_take c kind (taken c kind a) ≡ true
+  pub taken_lent : (r : Registers) (kind : Kind) (a : ℕ) → can_take c kind (taken_device c kind a) ≡ true
       → IsLent (record { registers = r; stock = answered (FreeOf kind) a k })
   taken_lent r kind a can =
       record {
@@ -156,18 +156,18 @@ module _ (s : State) (lent : IsLent s) where
         marks = length-set c.claimed d true ∙ lent.marks;
         few = lent.few;
         fresh = λ e pooled free. lent.fresh e pooled (less_marked c.claimed d e free);
-        pooled = All-push (λ (x : Stint). is_pooled c x.device ≡ true) k.stints (record { device = d; left = None }) lent.pooled pooled;
+        pooled = All-push (λ (x : StintState). is_pooled c x.device ≡ true) k.stints (record { device = d; left = None }) lent.pooled pooled;
         held =
-            All-push (λ (x : Stint). x.left ≡ None → get_or (set c.claimed d true) x.device false ≡ true) k.stints (record { device = d; left = None })
+            All-push (λ (x : StintState). x.left ≡ None → get_or (set c.claimed d true) x.device false ≡ true) k.stints (record { device = d; left = None })
             (λ i y lt none. more_marked c.claimed d (get_or k.stints i y).device (lent.held i y lt none))
             (λ none. get_or-set_same c.claimed d true false (omega (arith, low, lent.marks)));
         one =
-            pairs_push (λ (x y : Stint). x.left ≡ None → y.left ≡ None → x.device ≢ y.device) k.stints (record { device = d; left = None }) lent.one
+            pairs_push (λ (x y : StintState). x.left ≡ None → y.left ≡ None → x.device ≢ y.device) k.stints (record { device = d; left = None }) lent.one
             (λ i y lt none last same. false≢true (sym mark ∙ ap (λ e. get_or c.claimed e false) (sym same) ∙ lent.held i y lt none));
       }
     where
       d : ℕ
-      d = taken c kind a
+      d = taken_device c kind a
 
       parts : (is_kind kind (pool_kind_at c d) ≡ true) × (not (is_claimed c d) ≡ true)
       parts = and_parts (is_kind kind (pool_kind_at c d)) (not (is_claimed c d)) can
@@ -202,23 +202,24 @@ module _ (s : State) (lent : IsLent s) where
       other d pooled same = false≢true (sym own ∙ ap (is_pooled c) (sym same) ∙ pooled)
 
   -- a stint that isn't over then, wasn't, and is of another device
-  open_then : (x : ℕ) (p : Progress) (e : ℕ) (l : Option Progress) → (handed x p (record { device = e; left = l })).left ≡ None → (l ≡ None) × (e ≢ x)
+  open_then : (x : ℕ) (p : DeviceProgress) (e : ℕ) (l : Option DeviceProgress) → (handed x p (record { device = e; left = l })).left ≡ None
+      → (l ≡ None) × (e ≢ x)
   open_then x p e (Some q) none =
       ⊎_elim
       (λ (is : eqb e x ≡ true). cc (sym (ap (λ b. (cond (b && false) (some_stint e p) (some_stint e q)).left) is) ∙ none))
       (λ (no : eqb e x ≡ false). cc (sym (ap (λ b. (cond (b && false) (some_stint e p) (some_stint e q)).left) no) ∙ none))
       (cases_Bool (eqb e x))
     where
-      some_stint : ℕ → Progress → Stint
+      some_stint : ℕ → DeviceProgress → StintState
       some_stint d left = record { device = d; left = Some left }
   open_then x p e None none =
       ⊎_elim
-      (λ (same : e ≡ x). cc (sym (ap (λ b. (cond (b && true) (let y : Stint = record { device = e; left = Some p } in y)
-      (let y : Stint = record { device = e; left = None } in y)).left) (eq-eqb e x same)) ∙ none))
+      (λ (same : e ≡ x). cc (sym (ap (λ b. (cond (b && true) (let y : StintState = record { device = e; left = Some p } in y)
+      (let y : StintState = record { device = e; left = None } in y)).left) (eq-eqb e x same)) ∙ none))
       (λ (ne : e ≢ x). (refl, ne))
       (cases_eq e x)
 
-  same_number : (x : ℕ) (p : Progress) (y : Stint) → (handed x p y).device ≡ y.device
+  same_number : (x : ℕ) (p : DeviceProgress) (y : StintState) → (handed x p y).device ≡ y.device
   same_number x p y =
       ⊎_elim
       (λ (is : (eqb y.device x && not (is_some y.left)) ≡ true). ap (λ b. (cond b (record y { left = Some p }) y).device) is)
@@ -262,10 +263,10 @@ module _ (s : State) (lent : IsLent s) where
             lent.one i j y less high one.0 other.0 (sym (same_number x p (get_or k.stints i y)) ∙ same ∙ same_number x p (get_or k.stints j y))));
       }
     where
-      p : Progress
+      p : DeviceProgress
       p = device_in k x
 
-      hand : Stint → Stint
+      hand : StintState → StintState
       hand = handed x p
 
   -- a transfer is finished on a device that is claimed
@@ -302,7 +303,7 @@ module _ (s : State) (lent : IsLent s) where
   pub row_lent : (answer : Question → ℕ) → IsLent (row s answer)
   row_lent answer = by_effect answer (next_effect s) (next_fit c (word_at s) s.registers) (next_begun c (word_at s) s.registers)
 
-nothing : (P : Stint → Type 0) → All P []
+nothing : (P : StintState → Type 0) → All P []
 nothing P i d lt = absurd (omega arith)
 
 pub begin_lent : (slot : Slot) → HasPool slot → IsLent (begin slot)

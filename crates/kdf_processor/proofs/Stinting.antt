@@ -9,10 +9,10 @@ use Rattle.std.proofs.lemmas.List.Elements.{All-head, All-tail}
 use Rattle.kdf_journal.specs.declared.kind.Kind.{Kind}
 use Rattle.kdf_journal.specs.declared.kind.Kind.TheVariants.{Tp}
 use Rattle.kdf_transfer.specs.AtOnce.{device_after, order_words}
-use Rattle.kdf_transfer.specs.Devices.{Fixture, Progress, blank_fixture, is_kind, new_progress}
+use Rattle.kdf_transfer.specs.Devices.{Fixture, DeviceProgress, blank_fixture, is_kind, new_progress}
 use Rattle.kdf_transfer.specs.declared.order.TransferOrder.{TransferOrder}
 use Rattle.kdf_transfer.proofs.OfKind.{exact}
-use Rattle.kdf_processor.specs.Claims.{can_take, is_claimed, least_pooled, may_take, taken}
+use Rattle.kdf_processor.specs.Claims.{can_take, is_claimed, least_pooled, may_take, taken_device}
 use Rattle.kdf_processor.specs.Effect.{Question, FreeOf, Effect, Starting, Asking, Returning}
 use Rattle.kdf_processor.specs.Needs.{next_effect}
 use Rattle.kdf_processor.specs.Row.{answered, handed, perform, released, row, transferred}
@@ -40,7 +40,7 @@ least_can c kind None e is = cc
 least_can c kind (Some d) e is = found (can_take c kind) (range_with_len 0 device_limit) d e
 
 -- what is taken may be
-pub taken_can : (c : Claims) (kind : Kind) (a : ℕ) → may_take c kind ≡ true → can_take c kind (taken c kind a) ≡ true
+pub taken_can : (c : Claims) (kind : Kind) (a : ℕ) → may_take c kind ≡ true → can_take c kind (taken_device c kind a) ≡ true
 unfolding least_pooled
 taken_can c kind a may =
     ⊎_elim
@@ -78,7 +78,7 @@ module _ (s : State) (lent : IsLent s) where
       of (Some kind) e = (kind, refl)
 
   -- one of a device that is given back
-  given : (d e : ℕ) (l : Option Progress) → lending_of (released true d k) (handed d (device_in k d) (record { device = e; left = l })) ≡ on_stint d
+  given : (d e : ℕ) (l : Option DeviceProgress) → lending_of (released true d k) (handed d (device_in k d) (record { device = e; left = l })) ≡ on_stint d
       (λ x. record x { given = true }) (lending_of k (record { device = e; left = l }))
   given d e l =
       ⊎_elim
@@ -86,7 +86,7 @@ module _ (s : State) (lent : IsLent s) where
       (λ (ne : e ≢ d). there ne l)
       (cases_eq e d)
     where
-      here : e ≡ d → (l : Option Progress) → lending_of (released true d k) (handed d (device_in k d) (record { device = e; left = l })) ≡ on_stint d
+      here : e ≡ d → (l : Option DeviceProgress) → lending_of (released true d k) (handed d (device_in k d) (record { device = e; left = l })) ≡ on_stint d
           (λ x. record x { given = true }) (lending_of k (record { device = e; left = l }))
       here same None =
           subst (λ d'. lending_of (released true d' k) (handed d' (device_in k d') (record { device = e; left = None })) ≡ on_stint d'
@@ -94,7 +94,7 @@ module _ (s : State) (lent : IsLent s) where
           (rw (eq-eqb e e refl) refl)
       here same (Some p) = rw (eq-eqb e d same) refl
 
-      there : e ≢ d → (l : Option Progress) → lending_of (released true d k) (handed d (device_in k d) (record { device = e; left = l })) ≡ on_stint d
+      there : e ≢ d → (l : Option DeviceProgress) → lending_of (released true d k) (handed d (device_in k d) (record { device = e; left = l })) ≡ on_stint d
           (λ x. record x { given = true }) (lending_of k (record { device = e; left = l }))
       there ne None = rw (ne_eqb e d ne, get_or-set_other k.devices d e new_progress new_progress ne) refl
       there ne (Some p) = rw (ne_eqb e d ne) refl
@@ -113,7 +113,7 @@ module _ (s : State) (lent : IsLent s) where
       (device_in k d)
   same_device d o first last kind is low = rw is (get_or-set_same k.devices d _ new_progress low)
 
-  moved : (d : ℕ) (o : TransferOrder) (first last : ℕ) (e : ℕ) (l : Option Progress) → is_pooled k.claims e ≡ true
+  moved : (d : ℕ) (o : TransferOrder) (first last : ℕ) (e : ℕ) (l : Option DeviceProgress) → is_pooled k.claims e ≡ true
       → lending_of (transferred d o first last (fixture_at k.claims d) k) (record { device = e; left = l }) ≡ on_stint d (moved_on o first last k.store)
       (lending_of k (record { device = e; left = l }))
   moved d o first last e l pooled =
@@ -123,7 +123,7 @@ module _ (s : State) (lent : IsLent s) where
       (λ (ne : e ≢ d). there ne l)
       (cases_eq e d)
     where
-      here : (l : Option Progress) → lending_of (transferred e o first last (fixture_at k.claims e) k) (record { device = e; left = l }) ≡ on_stint e
+      here : (l : Option DeviceProgress) → lending_of (transferred e o first last (fixture_at k.claims e) k) (record { device = e; left = l }) ≡ on_stint e
           (moved_on o first last k.store) (lending_of k (record { device = e; left = l }))
       here None =
           let kind = some_kind e pooled in
@@ -131,7 +131,8 @@ module _ (s : State) (lent : IsLent s) where
           rw (eq-eqb e e refl, transfer_claims e o first last (fixture_at k.claims e), same_device e o first last kind.0 kind.1 low, kind.1) refl
       here (Some p) = rw (eq-eqb e e refl, transfer_claims e o first last (fixture_at k.claims e)) refl
 
-      there : e ≢ d → (l : Option Progress) → lending_of (transferred d o first last (fixture_at k.claims d) k) (record { device = e; left = l }) ≡ on_stint d
+      there : e ≢ d → (l : Option DeviceProgress)
+          → lending_of (transferred d o first last (fixture_at k.claims d) k) (record { device = e; left = l }) ≡ on_stint d
           (moved_on o first last k.store) (lending_of k (record { device = e; left = l }))
       there ne None = rw (ne_eqb e d ne, transfer_claims d o first last (fixture_at k.claims d), other_device d e o first last (fixture_at k.claims d) ne) refl
       there ne (Some p) = rw (ne_eqb e d ne, transfer_claims d o first last (fixture_at k.claims d)) refl
@@ -139,18 +140,19 @@ module _ (s : State) (lent : IsLent s) where
   -- ---- all of them
 
   begun : (kind : Kind) (a : ℕ) → may_take k.claims kind ≡ true
-      → lendings (answered (FreeOf kind) a k) ≡ lendings k ++ record { device = taken k.claims kind a; kind = kind; progress = new_progress; given = false }
+      → lendings (answered (FreeOf kind) a k)
+      ≡ lendings k ++ record { device = taken_device k.claims kind a; kind = kind; progress = new_progress; given = false }
       ∷ []
   unfolding lendings
   begun kind a may =
-      let d : ℕ = taken k.claims kind a in
+      let d : ℕ = taken_device k.claims kind a in
       let can = and_parts (is_kind kind (pool_kind_at k.claims d)) (not (is_claimed k.claims d)) (taken_can k.claims kind a may) in
       let is : pool_kind_at k.claims d ≡ Some kind = exact kind (pool_kind_at k.claims d) can.0 in
       let pooled : is_pooled k.claims d ≡ true = ap is_some is in
       let mark : get_or k.claims.claimed d false ≡ false = unmarked k.claims d kind is (lent.few d pooled) (not_true (is_claimed k.claims d) can.1) in
       map-append (lending_of (answered (FreeOf kind) a k)) k.stints (record { device = d; left = None } ∷ [])
       ∙ ap (λ (x : Lending). map (lending_of k) k.stints ++ x ∷ [])
-      (ap₂ (λ (o : Option Kind) (p : Progress). (let x : Lending = record { device = d; kind = unwrap_or o Tp; progress = p; given = false } in x)) is
+      (ap₂ (λ (o : Option Kind) (p : DeviceProgress). (let x : Lending = record { device = d; kind = unwrap_or o Tp; progress = p; given = false } in x)) is
       (lent.fresh d pooled mark))
 
   over : (d : ℕ) → lendings (released true d k) ≡ map (on_stint d (λ x. record x { given = true })) (lendings k)

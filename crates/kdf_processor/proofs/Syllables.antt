@@ -5,7 +5,7 @@ use Rattle.kdf_syllable.specs.Spelling.{size_of_first}
 use Rattle.kdf_decode.specs.Decoding.{decoded, first_decoded}
 use Rattle.kdf_processor.specs.View.{View}
 use Rattle.kdf_processor.specs.Needs.{group_of, syllable_at, count_at, order_at}
-use Rattle.kdf_processor.specs.Table.{on}
+use Rattle.kdf_processor.specs.Table.{syllable_after}
 use Rattle.kdf_processor.specs.Fetch.{syllable_read}
 
 byte_cases : (inside out : Bool) (g x a : ℕ) → Byte a ≡ cond inside (cond out (Held g) (Byte x)) Outside → (inside ≡ true) × (x ≡ a)
@@ -33,19 +33,20 @@ order_of_one v n a p s =
     let first = byte_is v n a p in
     rw (count_is v n a 1 p s, first.0, first.1) (by_size a 0 0 1 s)
 
-pub order_of_two : (v : View) (n a b : ℕ) → Byte a ≡ syllable_read v n → Byte b ≡ syllable_read v (on n 1) → size_of_first a ≡ 2
+pub order_of_two : (v : View) (n a b : ℕ) → Byte a ≡ syllable_read v n → Byte b ≡ syllable_read v (syllable_after n 1) → size_of_first a ≡ 2
     → order_at v.claims.size v.word n ≡ first_decoded (a ∷ b ∷ 0 ∷ [])
 order_of_two v n a b p q s =
     let first = byte_is v n a p in
-    let second = byte_is v (on n 1) b q in
+    let second = byte_is v (syllable_after n 1) b q in
     rw (count_is v n a 2 p s, first.0, second.0, first.1, second.1) (by_size a b 0 2 s)
 
-pub order_of_three : (v : View) (n a b c : ℕ) → Byte a ≡ syllable_read v n → Byte b ≡ syllable_read v (on n 1) → Byte c ≡ syllable_read v (on (on n 1) 1)
+pub order_of_three : (v : View) (n a b c : ℕ) → Byte a ≡ syllable_read v n → Byte b ≡ syllable_read v (syllable_after n 1)
+    → Byte c ≡ syllable_read v (syllable_after (syllable_after n 1) 1)
     → size_of_first a ≡ 3 → order_at v.claims.size v.word n ≡ first_decoded (a ∷ b ∷ c ∷ [])
 order_of_three v n a b c p q r s =
     let first = byte_is v n a p in
-    let second = byte_is v (on n 1) b q in
-    let third = byte_is v (on (on n 1) 1) c r in
+    let second = byte_is v (syllable_after n 1) b q in
+    let third = byte_is v (syllable_after (syllable_after n 1) 1) c r in
     rw (count_is v n a 3 p s, first.0, second.0, third.0, first.1, second.1, third.1) (by_size a b c 3 s)
 
 -- a size that is neither 1 nor 2 is 3

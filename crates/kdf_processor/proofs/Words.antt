@@ -16,7 +16,7 @@ use Rattle.kdf_processor.specs.declared.plan.Plan.TheVariants.{ClaimKind, ClaimL
 use Rattle.kdf_processor.specs.declared.registers.Registers.{Registers}
 use Rattle.kdf_processor.specs.declared.step.Need.{Need}
 use Rattle.kdf_processor.specs.Ahead.{act_word, word_ahead, word_asked}
-use Rattle.kdf_processor.specs.Claims.{claim, free_for, kind_numbered, may_take, taken}
+use Rattle.kdf_processor.specs.Claims.{claim, free_for, kind_numbered, may_take, taken_device}
 use Rattle.kdf_processor.specs.Effect.{Change, Refused, Going, of_change, Effect, Failing, Ending, Changing, Fetching}
 use Rattle.kdf_processor.specs.Effect.{Keeping, Testing, Starting, Asking, IsBusy, IsOut, Time, FreeOf, OfService, Claiming, Returning, Spooling}
 use Rattle.kdf_processor.specs.Needs.{effect_at, effect_needs, effect_or_liv, needs_at, order_at}
@@ -123,7 +123,8 @@ found_no_ask r rest (Some d) = refl
 
 takes_no_ask : (c : Claims) (r : Registers) (rest : List ℕ) (kind : Kind) (o : Option ℕ) → IsNoAsk (claims_or_takes c r rest kind o)
 takes_no_ask c r rest kind (Some d) = refl
-takes_no_ask c r rest kind None = either_no_ask (may_take c kind) (Asking (FreeOf kind) (λ a. with_nest 1 (taken c kind a ∷ rest) r)) (Failing Claim) refl refl
+takes_no_ask c r rest kind None =
+    either_no_ask (may_take c kind) (Asking (FreeOf kind) (λ a. with_nest 1 (taken_device c kind a ∷ rest) r)) (Failing Claim) refl refl
 
 kind_no_ask : (c : Claims) (r : Registers) (rest : List ℕ) (o : Option Kind) → IsNoAsk (claims_kind c r rest o)
 kind_no_ask c r rest None = refl

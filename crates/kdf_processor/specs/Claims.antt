@@ -50,5 +50,5 @@ abbrev pub may_take : Claims → Kind → Bool
 may_take c k = is_some (least_pooled c k)
 
 -- the device that is taken where a is the answer: a itself where it is such, else the least
-abbrev pub taken : Claims → Kind → ℕ → ℕ
-taken c k a = if can_take c k a then a else unwrap_or (least_pooled c k) 0
+abbrev pub taken_device : Claims → Kind → ℕ → ℕ
+taken_device c k a = if can_take c k a then a else unwrap_or (least_pooled c k) 0

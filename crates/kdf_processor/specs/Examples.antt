@@ -7,7 +7,7 @@ use Rattle.kdf_syllable.specs.declared.order.Order.TheVariants as order
 use Rattle.kdf_journal.specs.declared.failure.Failure.{Failure}
 use Rattle.kdf_journal.specs.declared.kind.Kind.{Kind}
 use Rattle.kdf_journal.specs.declared.kind.Kind.TheVariants.{Tr, Tp, Cr, Lp, Mt}
-use Rattle.kdf_transfer.specs.Devices.{Fixture, Progress, new_progress, test_of}
+use Rattle.kdf_transfer.specs.Devices.{Fixture, DeviceProgress, new_progress, test_of}
 use Rattle.kdf_transfer.specs.Examples.{ab, paper}
 use Rattle.kdf_transfer.specs.declared.order.TransferOrder.{TransferOrder}
 use Rattle.kdf_processor.specs.declared.spooled.Spooled.{Spooled}
@@ -138,7 +138,7 @@ claiming n =
     }
 
 -- with devices that have come so far, and an answer to each question
-abbrev pub equipped : ℕ → Progress → ℕ → View
+abbrev pub equipped : ℕ → DeviceProgress → ℕ → View
 equipped n progress answer =
     record {
       claims = claiming n;
@@ -172,7 +172,7 @@ asks b tr answer t =
     obeyed_over (equipped 6 new_progress answer) (with_tr tr (counted 60 [] t)) (order.Query b 1)
 
 -- an order on Q1 that tests devices which have come so far, after TR
-abbrev pub tests : ℕ → Bool → Progress → Triple → Outcome
+abbrev pub tests : ℕ → Bool → DeviceProgress → Triple → Outcome
 tests b tr progress t =
     obeyed_over (equipped 6 progress 0) (with_tr tr (counted 60 [] t)) (order.Query b 1)
 
@@ -181,7 +181,7 @@ abbrev pub tells : Bool → Triple → Act → Outcome
 tells tr t act = does (with_tr tr (counted 62 [] t)) act
 
 -- a device at a place, with its flag and its mark
-abbrev pub standing : ℕ → Bool → Bool → Progress
+abbrev pub standing : ℕ → Bool → Bool → DeviceProgress
 standing place flag mark = record new_progress { place = place; flag = flag; mark = mark }
 
 -- OUT, the first n devices being claimed, the time being 2^50 + 9 and 41 orders obeyed
@@ -215,7 +215,7 @@ abbrev pub ends_behind : List ℕ → Outcome
 ends_behind nest = ends (record (linked 61 nest []) { ran = 41 })
 
 -- what a program has whose device 0 is a paper tape of eight letters A and eight letters B, and whose store has four words
-abbrev pub kept : List Bool → List Spooled → ℕ → List ℕ → Progress → Stock
+abbrev pub kept : List Bool → List Spooled → ℕ → List ℕ → DeviceProgress → Stock
 kept claimed spooled asked store progress =
     record {
       claims = record { size = 4; claimed = claimed; fixtures = Some (paper ab) ∷ []; pool = []; served = false };

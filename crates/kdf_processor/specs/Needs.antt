@@ -13,7 +13,7 @@ use Rattle.kdf_decode.specs.Decoding.{decoded}
 use Rattle.kdf_processor.specs.State.{Claims, State, word_at}
 use Rattle.kdf_processor.specs.Effect.{Question, FreeOf, Effect, Failing, Ending, Changing, Fetching, Keeping, Testing, Starting, Asking, Claiming, Returning}
 use Rattle.kdf_processor.specs.Effect.{Spooling}
-use Rattle.kdf_processor.specs.Table.{on, effect}
+use Rattle.kdf_processor.specs.Table.{syllable_after, effect}
 use Rattle.kdf_processor.specs.View.{groups_of, order_groups}
 
 -- the group of an address
@@ -29,14 +29,14 @@ abbrev pub syllables : ℕ → ℕ → (ℕ → ℕ) → ℕ → Option (List �
 syllables zero size word at = Some []
 syllables (suc n) size word at =
     if nat_lt (at / 6) size
-    then option_map (λ rest. syllable_at word at ∷ rest) (syllables n size word (on at 1))
+    then option_map (λ rest. syllable_at word at ∷ rest) (syllables n size word (syllable_after at 1))
     else None
 
 -- their groups, ending before one that is outside
 abbrev pub syllable_needs : ℕ → ℕ → ℕ → List Need
 syllable_needs zero size at = []
 syllable_needs (suc n) size at =
-    if nat_lt (at / 6) size then Group (group_of (at / 6)) ∷ syllable_needs n size (on at 1) else []
+    if nat_lt (at / 6) size then Group (group_of (at / 6)) ∷ syllable_needs n size (syllable_after at 1) else []
 
 -- how many syllables the order at a place has
 abbrev pub count_at : ℕ → (ℕ → ℕ) → ℕ → ℕ

@@ -18,7 +18,7 @@ pub record Outcome : Type 0 where
   pub act : Act
 
 -- an order came to this outcome over a port
-pub record Obeyed {P : Type 0} (acts : P → Act → P → Type 0) (o : Outcome) (old new : P)
+pub record CameTo {P : Type 0} (acts : P → Act → P → Type 0) (o : Outcome) (old new : P)
     (left : Registers) (ended : Step) : Type 0 where
   pub step : ended ≡ o.step
   pub registers : left ≡ o.registers

@@ -5,7 +5,7 @@ use Rattle.kdf_qstore.specs.declared.triple.Triple.{Triple}
 use Rattle.kdf_qstore.specs.Triples.{triple_at}
 use Rattle.kdf_journal.specs.declared.kind.Kind.{Kind}
 use Rattle.kdf_journal.specs.declared.kind.Kind.TheVariants.{Tp, Lp}
-use Rattle.kdf_transfer.specs.Devices.{Progress, new_progress}
+use Rattle.kdf_transfer.specs.Devices.{DeviceProgress, new_progress}
 use Rattle.kdf_transfer.specs.Examples.{all_a, all_b, having}
 use Rattle.kdf_processor.specs.declared.registers.Life.{Life}
 use Rattle.kdf_processor.specs.declared.step.Need.{Need}
@@ -17,7 +17,7 @@ use Rattle.kdf_processor.specs.Needs.{effect_needs}
 use Rattle.kdf_processor.specs.Outcome.{Outcome}
 use Rattle.kdf_processor.specs.Plan.{try_order}
 use Rattle.kdf_transfer.specs.Slots.{Slot}
-use Rattle.kdf_processor.specs.State.{Claims, Lending, State, Stint, Stock, begin, device_limit, lendings}
+use Rattle.kdf_processor.specs.State.{Claims, Lending, State, StintState, Stock, begin, device_limit, lendings}
 use Rattle.kdf_processor.specs.Table.{effect}
 use Rattle.kdf_processor.specs.View.{View}
 
@@ -53,10 +53,10 @@ needs_for n nest = effect_needs (2 ∷ 5 ∷ []) (effect (lending n) (calling ne
 -- ---- stints
 
 -- a device was taken, or was given back when it had come so far
-abbrev pub held : ℕ → Stint
+abbrev pub held : ℕ → StintState
 held d = record { device = d; left = None }
 
-abbrev pub returned : ℕ → Progress → Stint
+abbrev pub returned : ℕ → DeviceProgress → StintState
 returned d progress = record { device = d; left = Some progress }
 
 -- a punch as a stint shows it
@@ -65,7 +65,7 @@ lent_punch d blocks given = record { device = d; kind = Tp; progress = having bl
 
 -- what a program has beside a pool of the punches 0 and 2 and the printer 1, of which nothing but the last may be claimed and may
 -- have moved something
-abbrev pub stocking : Bool → ℕ → List Stint → List (List ℕ) → Stock
+abbrev pub stocking : Bool → ℕ → List StintState → List (List ℕ) → Stock
 stocking claimed asked stints blocks =
     record {
       claims = record {

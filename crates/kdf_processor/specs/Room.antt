@@ -4,7 +4,7 @@ use Rattle.kdf_transfer.specs.declared.order.TransferOrder.{TransferOrder}
 use Rattle.kdf_processor.specs.declared.registers.Registers.{Registers}
 use Rattle.kdf_processor.specs.declared.step.Step.{Step}
 use Rattle.kdf_processor.specs.Effect.{Act, Nothing, Writes, Starts, Asks, FreeOf, Acquires, Releases, Spools}
-use Rattle.kdf_processor.specs.Outcome.{Outcome, Obeyed}
+use Rattle.kdf_processor.specs.Outcome.{Outcome, CameTo}
 
 -- there is room for what an act keeps: for a transfer, for a text, for a stint with its answer, and for an answer
 abbrev pub RoomFor : (ℕ → TransferOrder → ℕ → ℕ → Type 0) → (ℕ → ℕ → Type 0) → Type 0 → Type 0 → Act → Type 0
@@ -22,4 +22,4 @@ pub record WithRoom {P : Type 0} (keeps : P → P → Type 0) (acts : P → Act 
     (left : Registers) (ended : Step) : Type 0 where
   pub kept : P
   pub stays : keeps old kept
-  pub obeyed : Obeyed acts o kept new left ended
+  pub obeyed : CameTo acts o kept new left ended

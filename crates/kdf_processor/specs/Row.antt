@@ -4,11 +4,11 @@ use Rattle.std.specs.Prelude.{slice_set}
 use Rattle.kdf_word.specs.Characters.{codes_of_all}
 use Rattle.kdf_media.specs.Media.{through_end}
 use Rattle.kdf_transfer.specs.AtOnce.{device_after, order_words, stored}
-use Rattle.kdf_transfer.specs.Devices.{Fixture, Progress, new_progress}
+use Rattle.kdf_transfer.specs.Devices.{Fixture, DeviceProgress, new_progress}
 use Rattle.kdf_transfer.specs.declared.order.TransferOrder.{TransferOrder}
-use Rattle.kdf_processor.specs.State.{State, Stint, Stock, device_in, fixture_at}
+use Rattle.kdf_processor.specs.State.{State, StintState, Stock, device_in, fixture_at}
 use Rattle.kdf_processor.specs.Effect.{Question, FreeOf, Act, Nothing, Writes, Starts, Asks, Acquires, Releases, Spools, Effect}
-use Rattle.kdf_processor.specs.Claims.{taken as taken_device}
+use Rattle.kdf_processor.specs.Claims.{taken_device}
 use Rattle.kdf_processor.specs.Needs.{next_effect}
 use Rattle.kdf_processor.specs.View.{by_itself}
 use Rattle.kdf_processor.specs.Outcome.{Outcome, done}
@@ -37,7 +37,7 @@ abbrev pub taking : ℕ → Stock → Stock
 taking d k = record (with_claimed d true k) { stints = k.stints ++ record { device = d; left = None } ∷ [] }
 
 -- a device of the pool that has come so far is given back: its stint, which wasn't, is over and keeps that
-abbrev pub handed : ℕ → Progress → Stint → Stint
+abbrev pub handed : ℕ → DeviceProgress → StintState → StintState
 handed d p x = if x.device == d && not (is_some x.left) then record x { left = Some p } else x
 
 -- a device is given back; one of the pool has moved nothing then, whoever takes it

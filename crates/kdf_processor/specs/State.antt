@@ -3,7 +3,7 @@ use Rattle.std.specs.Prelude.{ℕ, ◌-◌, List, [], ◌++◌, Bool, false, Opt
 use Rattle.kdf_qstore.specs.Triples.{zero_triples}
 use Rattle.kdf_journal.specs.declared.kind.Kind.{Kind}
 use Rattle.kdf_journal.specs.declared.kind.Kind.TheVariants.{Tp}
-use Rattle.kdf_transfer.specs.Devices.{Fixture, Progress, blank_fixture, new_progress}
+use Rattle.kdf_transfer.specs.Devices.{Fixture, DeviceProgress, blank_fixture, new_progress}
 use Rattle.kdf_transfer.specs.Slots.{Slot}
 use Rattle.kdf_processor.specs.declared.registers.Life.TheVariants.{Live}
 use Rattle.kdf_processor.specs.declared.registers.Registers.{Registers}
@@ -24,9 +24,9 @@ pub record Claims : Type 0 where
 
 -- a stint: that a device of the pool was taken. Until it is given back, the device of its number tells how far it has come;
 -- then the stint keeps that
-pub record Stint : Type 0 where
+pub record StintState : Type 0 where
   pub device : ℕ
-  pub left : Option Progress
+  pub left : Option DeviceProgress
 
 -- what a program has beside its registers: that; what it spooled; how many answers it took; its stints, in the order in which the devices were taken; its
 -- words; and by number how far each device has come
@@ -36,10 +36,10 @@ pub record Stock : Type 0 where
   -- how many answers it took
   pub asked : ℕ
   -- its stints, in the order in which the devices were taken
-  pub stints : List Stint
+  pub stints : List StintState
   -- what a transfer may hide: the words, and by number how far each device has come
   pub store : List ℕ
-  pub devices : List Progress
+  pub devices : List DeviceProgress
 
 -- a program by itself
 pub record State : Type 0 where
@@ -54,10 +54,10 @@ abbrev pub word_at : State → ℕ → ℕ
 word_at s a = word_in s.stock a
 
 -- how far a device has come
-abbrev pub device_in : Stock → ℕ → Progress
+abbrev pub device_in : Stock → ℕ → DeviceProgress
 device_in k d = slice_index_or k.devices d new_progress
 
-abbrev pub device_at : State → ℕ → Progress
+abbrev pub device_at : State → ℕ → DeviceProgress
 device_at s d = device_in s.stock d
 
 -- what a device of the program's own is, where it has one of this number
@@ -84,10 +84,10 @@ fixture_at c d = pooled_or (pool_kind_at c d) (own_fixture_at c d)
 pub record Lending : Type 0 where
   pub device : ℕ
   pub kind : Kind
-  pub progress : Progress
+  pub progress : DeviceProgress
   pub given : Bool
 
-abbrev pub lending_of : Stock → Stint → Lending
+abbrev pub lending_of : Stock → StintState → Lending
 lending_of k x =
     record {
       device = x.device;

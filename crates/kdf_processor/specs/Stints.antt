@@ -4,11 +4,11 @@ use Rattle.std.specs.List.{All, AllPairs}
 use Rattle.kdf_transfer.specs.AtOnce.{device_after, order_words}
 use Rattle.kdf_transfer.specs.declared.device.Device.{Device}
 use Rattle.kdf_transfer.specs.declared.order.TransferOrder.{TransferOrder}
-use Rattle.kdf_processor.specs.Claims.{taken}
+use Rattle.kdf_processor.specs.Claims.{taken_device}
 use Rattle.kdf_processor.specs.Effect.{Question, FreeOf, Effect, Starting, Asking, Returning}
 use Rattle.kdf_transfer.specs.Devices.{blank_fixture, fixture_of, new_progress, progress_of}
 use Rattle.kdf_transfer.specs.Slots.{Slot}
-use Rattle.kdf_processor.specs.State.{Lending, State, Stint, device_at, device_limit, is_pooled, stocked}
+use Rattle.kdf_processor.specs.State.{Lending, State, StintState, device_at, device_limit, is_pooled, stocked}
 
 -- what is done to the stint of a device that isn't given back
 abbrev pub on_stint : ℕ → (Lending → Lending) → Lending → Lending
@@ -28,7 +28,7 @@ abbrev pub lendings_after : (Question → ℕ) → Effect → State → List Len
 lendings_after answer (Asking (FreeOf kind) after) s xs =
     xs
     ++ record {
-      device = taken s.stock.claims kind (answer (FreeOf kind));
+      device = taken_device s.stock.claims kind (answer (FreeOf kind));
       kind = kind;
       progress = new_progress;
       given = false;
@@ -53,9 +53,9 @@ pub record IsLent (s : State) : Type 0 where
   pub few : (d : ℕ) → is_pooled s.stock.claims d ≡ true → d < device_limit
   pub fresh : (d : ℕ) → is_pooled s.stock.claims d ≡ true → slice_index_or s.stock.claims.claimed d false ≡ false
       → device_at s d ≡ new_progress
-  pub pooled : All (λ (x : Stint). is_pooled s.stock.claims x.device ≡ true) s.stock.stints
-  pub held : All (λ (x : Stint). x.left ≡ None → slice_index_or s.stock.claims.claimed x.device false ≡ true) s.stock.stints
-  pub one : AllPairs (λ (x y : Stint). x.left ≡ None → y.left ≡ None → x.device ≢ y.device) s.stock.stints
+  pub pooled : All (λ (x : StintState). is_pooled s.stock.claims x.device ≡ true) s.stock.stints
+  pub held : All (λ (x : StintState). x.left ≡ None → slice_index_or s.stock.claims.claimed x.device false ≡ true) s.stock.stints
+  pub one : AllPairs (λ (x y : StintState). x.left ≡ None → y.left ≡ None → x.device ≢ y.device) s.stock.stints
 
 -- a slot has a place for each of sixteen devices, and those of the pool's numbers are without blocks
 pub record HasPool (slot : Slot) : Type 0 where

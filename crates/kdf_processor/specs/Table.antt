@@ -10,7 +10,7 @@ use Rattle.kdf_syllable.specs.declared.order.Order.TheVariants as order
 use Rattle.kdf_qstore.specs.declared.triple.Triple.{Triple}
 use Rattle.kdf_qstore.specs.Triples.{triple_at, with_triple, triple_of, word_of_triple, sum_of, sum_16, difference_16, counted_down, stepped}
 use Rattle.kdf_arith.specs.declared.order.ArithOrder.TheVariants as arithmetic
-use Rattle.kdf_arith.specs.Arith.{Arith, arith}
+use Rattle.kdf_arith.specs.Arith.{Arith, arith_result}
 use Rattle.kdf_journal.specs.declared.failure.Failure.TheVariants.{Liv, Nouv, Out, Reset, Claim}
 use Rattle.kdf_journal.specs.declared.kind.Kind.{Kind}
 use Rattle.kdf_journal.specs.declared.kind.Kind.TheVariants.{Mt}
@@ -22,18 +22,18 @@ use Rattle.kdf_transfer.specs.declared.test.Test.TheVariants.{Flag, Start, Mark}
 use Rattle.kdf_processor.specs.State.{Claims, is_pooled}
 use Rattle.kdf_transfer.specs.Devices.{is_kind}
 use Rattle.kdf_transfer.specs.declared.wanted.Wanted.TheVariants.{Kinded, Labelled}
-use Rattle.kdf_processor.specs.Claims.{claim, is_claimed, free_for, kind_numbered, may_take, taken}
+use Rattle.kdf_processor.specs.Claims.{claim, is_claimed, free_for, kind_numbered, may_take, taken_device}
 use Rattle.kdf_processor.specs.Effect.{Change, Refused, Going, Decision, Undecided, Decided, of_change}
 use Rattle.kdf_processor.specs.Effect.{Effect, Failing, Ending, Changing, Fetching, Keeping, Testing, Starting, Asking, IsBusy, IsOut, Time, FreeOf, OfService}
 use Rattle.kdf_processor.specs.Effect.{Claiming, Returning, Spooling}
 
 -- the syllable that follows n syllables on; they are counted modulo 6 times 8,192
-abbrev pub on : ℕ → ℕ → ℕ
-on at n = (at + n) % 49152
+abbrev pub syllable_after : ℕ → ℕ → ℕ
+syllable_after at n = (at + n) % 49152
 
 -- an order of n syllables that leaves this nest
 abbrev pub with_nest : ℕ → List ℕ → Registers → Registers
-with_nest n nest r = record r { nest = nest; at = on r.at n }
+with_nest n nest r = record r { nest = nest; at = syllable_after r.at n }
 
 abbrev pub with_v : Bool → Registers → Registers
 with_v v r = record r { flags = record r.flags { v = v } }
@@ -96,7 +96,7 @@ plain_row r code =
     else (if code == 0x1D then link_row r r.links  -- LINK
     else (if code == 0x1E then keep_link_row r  -- =LINK
     -- codes 02 to 12, 14 to 1C, 1F and 20: arithmetic
-    else (if nat_le code 0x20 then arith_changes 1 r (arith (arithmetic.Plain code) r.nest r.flags)
+    else (if nat_le code 0x20 then arith_changes 1 r (arith_result (arithmetic.Plain code) r.nest r.flags)
     else Refused Liv)))
 
 -- ---- OUT
@@ -111,7 +111,7 @@ abbrev pub claims_or_takes : Claims → Registers → List ℕ → Kind → Opti
 claims_or_takes c r rest kind (Some d) = Claiming d (with_nest 1 (d ∷ rest) r)
 claims_or_takes c r rest kind None =
     if may_take c kind
-    then Asking (FreeOf kind) (λ a. with_nest 1 (taken c kind a ∷ rest) r)
+    then Asking (FreeOf kind) (λ a. with_nest 1 (taken_device c kind a ∷ rest) r)
     else Failing Claim
 
 -- where there is such a kind
@@ -284,7 +284,7 @@ direct_effect r t u q a = moves t r 3 ((a + (triple_at r.q q).m) % 2 ^ 16) None 
 -- where a jump goes, if it does: its target is 8192·s + w for syllable s of word w
 abbrev pub goes : Registers → Bool → ℕ → Registers
 goes r jumps target =
-    record r { at = if jumps then 6 * (target % 8192) + target / 8192 else on r.at 3 }
+    record r { at = if jumps then 6 * (target % 8192) + target / 8192 else syllable_after r.at 3 }
 
 -- the tests of a word by its sign
 abbrev pub is_negative : ℕ → Bool
@@ -352,7 +352,7 @@ unfoldable pub exit_row : Registers → ℕ → List ℕ → Change
 exit_row r n [] = Refused Nouv
 exit_row r n (link ∷ links) =
     if nat_lt (link / 8192) 6
-    then Going (record r { links = links; at = on (6 * (link % 8192) + link / 8192) (3 * n) })
+    then Going (record r { links = links; at = syllable_after (6 * (link % 8192) + link / 8192) (3 * n) })
     else Refused Reset
 
 -- ---- devices
@@ -449,7 +449,7 @@ change_of r (order.Single code q) = single_row r code q (triple_at r.q q)
 change_of r (order.Copies code q k) =
     changes_q r k (copied code (triple_at r.q q) (triple_at r.q k))
 change_of r (order.Shift code by) =
-    arith_changes 2 r (arith (arithmetic.Shift code (places_of r by)) r.nest r.flags)
+    arith_changes 2 r (arith_result (arithmetic.Shift code (places_of r by)) r.nest r.flags)
 change_of r (order.Jump c target) = jump_row r c target
 change_of r (order.Exit n) = exit_row r n r.links
 -- SET

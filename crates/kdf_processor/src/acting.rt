@@ -4,14 +4,14 @@ ghost use Rattle.kdf_transfer.specs.AtOnce.{IsArea};
 ghost use Rattle.kdf_transfer.specs.declared.wanted.Wanted.TheVariants.{Kinded};
 ghost use Rattle.kdf_processor.specs.Claims.{free_for, is_claimed, may_take};
 ghost use Rattle.kdf_processor.specs.Effect.{Act};
-ghost use Rattle.kdf_processor.specs.Outcome.{Obeyed, counted};
+ghost use Rattle.kdf_processor.specs.Outcome.{CameTo, counted};
 ghost use Rattle.kdf_processor.specs.Plan.{done_plan, IsBeginning, below_top, below_two};
 ghost use Rattle.kdf_processor.specs.Table.{with_nest, sets_tr};
 ghost use Rattle.kdf_processor.specs.View.{groups_of, order_groups};
 
 use crate::counting::count;
 use crate::plan::{Beginning, Plan};
-use crate::syllable_number::behind;
+use crate::syllable_number::syllable_after;
 use crate::{Port, Registers, Step, Test};
 use kdf_journal::Kind;
 use kdf_word::Word;
@@ -21,7 +21,7 @@ fn set_tr(registers: &mut Registers, tr: bool)
     ensures { registers.new ≡ sets_tr registers.old tr }
 {
     registers.flags.tr = tr;
-    registers.at = behind(registers.at, 2);
+    registers.at = syllable_after(registers.at, 2);
 }
 
 /// Puts a word in place of the top, after OUT.
@@ -32,7 +32,7 @@ fn replace_top(registers: &mut Registers, word: Word)
 {
     registers.nest.pop();
     registers.nest.push(word);
-    registers.at = behind(registers.at, 1);
+    registers.at = syllable_after(registers.at, 1);
 }
 
 /// Takes two words, after OUT.
@@ -42,7 +42,7 @@ fn drop_two(registers: &mut Registers)
 {
     registers.nest.pop();
     registers.nest.pop();
-    registers.at = behind(registers.at, 1);
+    registers.at = syllable_after(registers.at, 1);
 }
 
 /// Puts a word in place of two, after OUT.
@@ -53,7 +53,7 @@ fn replace_two(registers: &mut Registers, word: Word)
     registers.nest.pop();
     registers.nest.pop();
     registers.nest.push(word);
-    registers.at = behind(registers.at, 1);
+    registers.at = syllable_after(registers.at, 1);
 }
 
 /// Puts a device's number in place of two words, after OUT.
@@ -87,7 +87,7 @@ pub fn begin<P: Port>(registers: &mut Registers, port: &mut P, beginning: Beginn
         (order_groups beginning.order beginning.first beginning.last) ≡ None }
     requires room { P.room port.old
         (done_plan (P.shows port.old) registers.old (Plan.Begin beginning)).act }
-    ensures { Obeyed P.acts (done_plan (P.shows port.old) registers.old (Plan.Begin beginning))
+    ensures { CameTo P.acts (done_plan (P.shows port.old) registers.old (Plan.Begin beginning))
         port.old port.new registers.new result }
 {
     let Beginning {
@@ -97,7 +97,7 @@ pub fn begin<P: Port>(registers: &mut Registers, port: &mut P, beginning: Beginn
         last,
     } = beginning;
     port.start(device, order, first, last);
-    registers.at = behind(registers.at, 2);
+    registers.at = syllable_after(registers.at, 2);
     count(registers);
     Step::Done
 }
@@ -123,7 +123,7 @@ pub fn pass(registers: &mut Registers) -> Step
     ensures registers { registers.new ≡ counted registers.old registers.old.state
         (with_nest 2 registers.old.nest registers.old) }
 {
-    registers.at = behind(registers.at, 2);
+    registers.at = syllable_after(registers.at, 2);
     count(registers);
     Step::Done
 }
@@ -134,7 +134,7 @@ pub fn ask_busy<P: Port>(registers: &mut Registers, port: &mut P, device: u8) ->
     requires claimed { is_claimed (P.shows port.old).claims device ≡ true }
     requires room { P.room port.old
         (done_plan (P.shows port.old) registers.old (Plan.AskBusy device)).act }
-    ensures { Obeyed P.acts (done_plan (P.shows port.old) registers.old (Plan.AskBusy device))
+    ensures { CameTo P.acts (done_plan (P.shows port.old) registers.old (Plan.AskBusy device))
         port.old port.new registers.new result }
 {
     let answer = port.ask_busy(device);
@@ -149,7 +149,7 @@ pub fn ask_area<P: Port>(registers: &mut Registers, port: &mut P, first: u16, la
     requires area { IsArea first last (P.shows port.old).claims.size }
     requires room { P.room port.old
         (done_plan (P.shows port.old) registers.old (Plan.AskArea first last)).act }
-    ensures { Obeyed P.acts (done_plan (P.shows port.old) registers.old (Plan.AskArea first last))
+    ensures { CameTo P.acts (done_plan (P.shows port.old) registers.old (Plan.AskArea first last))
         port.old port.new registers.new result }
 {
     let answer = port.ask_area(first, last);
@@ -163,7 +163,7 @@ pub fn ask_time<P: Port>(registers: &mut Registers, port: &mut P) -> Step
     requires ran { registers.old.ran < u32.MAX }
     requires there { 0 < length registers.old.nest }
     requires room { P.room port.old (done_plan (P.shows port.old) registers.old Plan.AskTime).act }
-    ensures { Obeyed P.acts (done_plan (P.shows port.old) registers.old Plan.AskTime)
+    ensures { CameTo P.acts (done_plan (P.shows port.old) registers.old Plan.AskTime)
         port.old port.new registers.new result }
 {
     let time = Word::new(port.ask_time() % (1 << 48));
@@ -179,7 +179,7 @@ pub fn ask_service<P: Port>(registers: &mut Registers, port: &mut P, word: Word)
     requires served { (P.shows port.old).claims.served ≡ true }
     requires room { P.room port.old
         (done_plan (P.shows port.old) registers.old (Plan.AskService word)).act }
-    ensures { Obeyed P.acts (done_plan (P.shows port.old) registers.old (Plan.AskService word))
+    ensures { CameTo P.acts (done_plan (P.shows port.old) registers.old (Plan.AskService word))
         port.old port.new registers.new result }
 {
     let answer = port.ask_service(word);
@@ -197,7 +197,7 @@ pub fn take_pool<P: Port>(registers: &mut Registers, port: &mut P, kind: Kind) -
     requires free { (P.shows port.old).is_taken kind ≡ false }
     requires room { P.room port.old
         (done_plan (P.shows port.old) registers.old (Plan.ClaimKind kind)).act }
-    ensures { Obeyed P.acts (done_plan (P.shows port.old) registers.old (Plan.ClaimKind kind))
+    ensures { CameTo P.acts (done_plan (P.shows port.old) registers.old (Plan.ClaimKind kind))
         port.old port.new registers.new result }
 {
     let device = port.take_pool(kind);
@@ -214,7 +214,7 @@ pub fn give_back<P: Port>(registers: &mut Registers, port: &mut P, device: u8) -
     requires idle { (P.shows port.old).is_busy device ≡ false }
     requires room { P.room port.old
         (done_plan (P.shows port.old) registers.old (Plan.GiveBack device)).act }
-    ensures { Obeyed P.acts (done_plan (P.shows port.old) registers.old (Plan.GiveBack device))
+    ensures { CameTo P.acts (done_plan (P.shows port.old) registers.old (Plan.GiveBack device))
         port.old port.new registers.new result }
 {
     port.give_back(device);
@@ -238,7 +238,7 @@ pub fn spool<P: Port>(
     requires free { find (P.shows port.old).is_out (groups_of first last) ≡ None }
     requires room { P.room port.old
         (done_plan (P.shows port.old) registers.old (Plan.Spool stream first last)).act }
-    ensures { Obeyed P.acts
+    ensures { CameTo P.acts
         (done_plan (P.shows port.old) registers.old (Plan.Spool stream first last))
         port.old port.new registers.new result }
 {

@@ -1,11 +1,11 @@
 //! The orders of arithmetic, over registers.
 ghost use Rattle.std.specs.Prelude.{◌≡◌, OnErr, OnOk};
 ghost use Rattle.kdf_arith.specs.declared.order.ArithOrder.TheVariants as arithmetic;
-ghost use Rattle.kdf_arith.specs.Arith.{arith, IsPlainCode, IsShiftCode};
+ghost use Rattle.kdf_arith.specs.Arith.{arith_result, IsPlainCode, IsShiftCode};
 ghost use Rattle.kdf_processor.specs.Effect.{Comes};
-ghost use Rattle.kdf_processor.specs.Table.{arith_changes, on};
+ghost use Rattle.kdf_processor.specs.Table.{arith_changes, syllable_after};
 
-use crate::syllable_number::behind;
+use crate::syllable_number::syllable_after;
 use crate::{Failure, Registers};
 use kdf_arith::{Nouv, obey_plain, obey_shift};
 
@@ -14,7 +14,7 @@ use kdf_arith::{Nouv, obey_plain, obey_shift};
 pub fn plain_arithmetic(registers: &mut Registers, code: u8) -> Result<(), Failure>
     requires { IsPlainCode code }
     ensures { Comes
-        (arith_changes 1 registers.old (arith (arithmetic.Plain code) registers.old.nest registers.old.flags))
+        (arith_changes 1 registers.old (arith_result (arithmetic.Plain code) registers.old.nest registers.old.flags))
         registers.old registers.new result }
 {
     let obeyed = obey_plain(&mut registers.nest, &mut registers.flags, code);
@@ -26,7 +26,7 @@ pub fn plain_arithmetic(registers: &mut Registers, code: u8) -> Result<(), Failu
 pub fn shift_arithmetic(registers: &mut Registers, code: u8, n: i16) -> Result<(), Failure>
     requires { IsShiftCode code }
     ensures { Comes
-        (arith_changes 2 registers.old (arith (arithmetic.Shift code n) registers.old.nest registers.old.flags))
+        (arith_changes 2 registers.old (arith_result (arithmetic.Shift code n) registers.old.nest registers.old.flags))
         registers.old registers.new result }
 {
     let obeyed = obey_shift(&mut registers.nest, &mut registers.flags, code, n);
@@ -37,12 +37,12 @@ pub fn shift_arithmetic(registers: &mut Registers, code: u8, n: i16) -> Result<(
 #[inline(always)]
 fn settle(registers: &mut Registers, size: u16, obeyed: Result<(), Nouv>) -> Result<(), Failure>
     ensures ok { OnOk obeyed ((result ≡ Ok tt)
-        × (registers.new ≡ record registers.old { at = on registers.old.at size })) }
+        × (registers.new ≡ record registers.old { at = syllable_after registers.old.at size })) }
     ensures err { OnErr obeyed ((result ≡ Err Failure.Nouv) × (registers.new ≡ registers.old)) }
 {
     match obeyed {
         Ok(()) => {
-            registers.at = behind(registers.at, size);
+            registers.at = syllable_after(registers.at, size);
             Ok(())
         }
         Err(_) => Err(Failure::Nouv),

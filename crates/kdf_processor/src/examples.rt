@@ -1,6 +1,6 @@
 //! Examples of the rows at the ends of their operands, and of the orders at a place, each computed from the
 //! definitions, as the contract of a function that does nothing.
-#![tactic(auto, unfolding(crate::specs::Table::plain_row, crate::specs::Table::out_effect, crate::specs::Table::single_row, crate::specs::Table::brought, crate::specs::Table::from_top, crate::specs::Table::changed, crate::specs::Table::copied, crate::specs::Table::indirect_effect, crate::specs::Table::direct_effect, crate::specs::Table::decision, crate::specs::Table::exit_row, crate::specs::Table::guarded, kdf_decode::specs::Decoding::decoded, kdf_arith::specs::Arith::arith, kdf_arith::specs::Rows::plain_row, kdf_arith::specs::Shifts::shift_row))]
+#![tactic(auto, unfolding(crate::specs::Table::plain_row, crate::specs::Table::out_effect, crate::specs::Table::single_row, crate::specs::Table::brought, crate::specs::Table::from_top, crate::specs::Table::changed, crate::specs::Table::copied, crate::specs::Table::indirect_effect, crate::specs::Table::direct_effect, crate::specs::Table::decision, crate::specs::Table::exit_row, crate::specs::Table::guarded, kdf_decode::specs::Decoding::decoded, kdf_arith::specs::Arith::arith_result, kdf_arith::specs::Rows::arith_row, kdf_arith::specs::Shifts::shift_row))]
 
 pub mod acts;
 pub mod calls;

@@ -2,7 +2,7 @@
 ghost use Rattle.kdf_processor.specs.Effect.{Comes};
 ghost use Rattle.kdf_processor.specs.Table.{exit_row};
 
-use crate::syllable_number::behind;
+use crate::syllable_number::syllable_after;
 use crate::{Failure, Registers};
 
 /// EXIT.
@@ -18,6 +18,6 @@ pub fn exit(registers: &mut Registers, n: u8) -> Result<(), Failure>
         return Err(Failure::Reset);
     }
     let link = registers.links.pop();
-    registers.at = behind(6 * (link % 8192) + link / 8192, 3 * u16::from(n));
+    registers.at = syllable_after(6 * (link % 8192) + link / 8192, 3 * u16::from(n));
     Ok(())
 }

@@ -5,11 +5,11 @@ ghost use Rattle.kdf_processor.specs.Buffered.{IsHeld};
 ghost use Rattle.kdf_processor.specs.Fetch.{held_of, IsFetched, IsFetchedAt, spelt_of, syllable_read};
 ghost use Rattle.kdf_processor.specs.Needs.{group_of, syllable_at};
 ghost use Rattle.kdf_processor.specs.declared.fetch.Fetched.TheVariants.{Spelt};
-ghost use Rattle.kdf_processor.specs.Table.{on};
+ghost use Rattle.kdf_processor.specs.Table.{syllable_after};
 ghost use Rattle.kdf_syllable.specs.Packing.{syllable};
 ghost use Rattle.kdf_syllable.specs.Spelling.{size_of_first};
 
-use crate::syllable_number::behind;
+use crate::syllable_number::syllable_after;
 use crate::{Buffer, Port};
 use kdf_syllable::{size_of_first, syllable};
 use kdf_word::Word;
@@ -256,7 +256,7 @@ fn fetch_after_first<P: Port>(port: &P, at: u16, first: u8) -> Fetched
     if size == 1 {
         return spelt(first, 0, 0);
     }
-    match read_syllable(port, behind(at, 1)) {
+    match read_syllable(port, syllable_after(at, 1)) {
         Syllable::Byte(second) => fetch_after_second(port, at, first, second),
         Syllable::Outside => Fetched::Bad,
         Syllable::Held(group) => Fetched::Held(group),
@@ -266,7 +266,7 @@ fn fetch_after_first<P: Port>(port: &P, at: u16, first: u8) -> Fetched
 /// The order at a syllable, which begins with these two.
 fn fetch_after_second<P: Port>(port: &P, at: u16, first: u8, second: u8) -> Fetched
     requires first { Syllable.Byte first ≡ syllable_read (P.shows port.now) at }
-    requires second { Syllable.Byte second ≡ syllable_read (P.shows port.now) (on at 1) }
+    requires second { Syllable.Byte second ≡ syllable_read (P.shows port.now) (syllable_after at 1) }
     requires longer { size_of_first first ≢ 1 }
     ensures { IsFetchedAt (P.shows port.now) at result }
 {
@@ -274,7 +274,7 @@ fn fetch_after_second<P: Port>(port: &P, at: u16, first: u8, second: u8) -> Fetc
     if size == 2 {
         return spelt(first, second, 0);
     }
-    match read_syllable(port, behind(behind(at, 1), 1)) {
+    match read_syllable(port, syllable_after(syllable_after(at, 1), 1)) {
         Syllable::Byte(third) => spelt(first, second, third),
         Syllable::Outside => Fetched::Bad,
         Syllable::Held(group) => Fetched::Held(group),

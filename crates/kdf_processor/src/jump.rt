@@ -6,7 +6,7 @@ ghost use Rattle.kdf_processor.specs.Effect.{Comes};
 ghost use Rattle.kdf_processor.specs.Table.{jump_row, goes};
 
 use crate::conditions::decide;
-use crate::syllable_number::behind;
+use crate::syllable_number::syllable_after;
 use crate::{Failure, Registers};
 
 /// A jump on the condition `c`. The one that is always taken comes first: most loops end with it.
@@ -33,6 +33,6 @@ fn go(registers: &mut Registers, jumps: bool, target: u16)
     registers.at = if jumps {
         6 * (target % 8192) + target / 8192
     } else {
-        behind(registers.at, 3)
+        syllable_after(registers.at, 3)
     };
 }

@@ -6,7 +6,7 @@ ghost use Rattle.kdf_processor.specs.Plan.{IsAccess, IsHalf, below_top, top};
 ghost use Rattle.kdf_processor.specs.Table.{with_nest, part_of, with_part, counts_on};
 
 use crate::plan::Access;
-use crate::syllable_number::behind;
+use crate::syllable_number::syllable_after;
 use crate::{Port, Registers};
 use kdf_word::Word;
 
@@ -73,7 +73,7 @@ pub fn push_fetched(registers: &mut Registers, access: Access, word: Word)
 {
     count_on(registers, access.u, access.q);
     registers.nest.push(part(word, access.half));
-    registers.at = behind(registers.at, access.size);
+    registers.at = syllable_after(registers.at, access.size);
 }
 
 /// Takes the word that is to be kept.
@@ -88,6 +88,6 @@ pub fn pop_kept(registers: &mut Registers, access: Access) -> Word
 {
     let word = registers.nest.pop();
     count_on(registers, access.u, access.q);
-    registers.at = behind(registers.at, access.size);
+    registers.at = syllable_after(registers.at, access.size);
     word
 }

@@ -5,7 +5,7 @@ ghost use Rattle.kdf_transfer.specs.declared.wanted.Wanted.TheVariants.{Kinded};
 ghost use Rattle.kdf_processor.specs.Claims.{free_for};
 ghost use Rattle.kdf_processor.specs.Effect.{Nothing};
 ghost use Rattle.kdf_processor.specs.Needs.{effect_needs, group_of};
-ghost use Rattle.kdf_processor.specs.Outcome.{Obeyed, outcome, counted};
+ghost use Rattle.kdf_processor.specs.Outcome.{CameTo, outcome, counted};
 ghost use Rattle.kdf_processor.specs.Plan.{planned, done_plan, planned_outcome, try_plan, try_change};
 ghost use Rattle.kdf_processor.specs.Plan.{CanObey, IsAccess, IsSound, IsSettled, IsChange, HasOperands, below_top};
 ghost use Rattle.kdf_processor.specs.Table.{with_nest};
@@ -20,7 +20,7 @@ use crate::counting::count;
 use crate::moves::{merged, pop_kept, push_fetched};
 use crate::plan::{Access, Plan};
 use crate::planning::{Planned, plan_next};
-use crate::syllable_number::behind;
+use crate::syllable_number::syllable_after;
 use crate::waits::first_need;
 use crate::{Failure, Life, Need, Port, Registers, Step};
 use kdf_journal::Kind;
@@ -47,7 +47,7 @@ fn end(registers: &mut Registers) -> Step
         ≡ counted registers.old Life.Ended (with_nest 1 (below_top registers.old.nest) registers.old) }
 {
     registers.nest.pop();
-    registers.at = behind(registers.at, 1);
+    registers.at = syllable_after(registers.at, 1);
     registers.state = Life::Ended;
     count(registers);
     Step::Ends
@@ -80,7 +80,7 @@ fn keep_word<P: Port>(registers: &mut Registers, port: &mut P, access: Access) -
     requires there { 0 < length registers.old.nest }
     requires free { (P.shows port.old).is_out (group_of access.address) ≡ false }
     requires room { P.room port.old (done_plan (P.shows port.old) registers.old (Plan.Keep access)).act }
-    ensures { Obeyed P.acts (done_plan (P.shows port.old) registers.old (Plan.Keep access))
+    ensures { CameTo P.acts (done_plan (P.shows port.old) registers.old (Plan.Keep access))
         port.old port.new registers.new result }
 {
     let top = pop_kept(registers, access);
@@ -100,7 +100,7 @@ fn carry_out<P: Port>(registers: &mut Registers, port: &mut P, plan: Plan) -> St
     requires free { first_pending (P.shows port.old) (effect_needs (P.shows port.old).mine
         (planned (P.shows port.old).claims plan registers.old)) ≡ None }
     requires room { P.room port.old (done_plan (P.shows port.old) registers.old plan).act }
-    ensures { Obeyed P.acts (done_plan (P.shows port.old) registers.old plan)
+    ensures { CameTo P.acts (done_plan (P.shows port.old) registers.old plan)
         port.old port.new registers.new result }
 {
     match plan {
@@ -129,7 +129,7 @@ fn carry_out<P: Port>(registers: &mut Registers, port: &mut P, plan: Plan) -> St
 /// Fails, or waits for the program's transfers.
 fn fail_or_wait<P: Port>(registers: &mut Registers, port: &P, kind: Failure) -> Step
     requires { registers.old.ran < u32.MAX }
-    ensures { Obeyed P.acts (try_plan (P.shows port.now) registers.old (Plan.Fail kind))
+    ensures { CameTo P.acts (try_plan (P.shows port.now) registers.old (Plan.Fail kind))
         port.now port.now registers.new result }
 {
     match first_need(port, &Plan::Fail(kind)) {
@@ -144,7 +144,7 @@ fn obey_label<P: Port>(registers: &mut Registers, port: &mut P, label: Word) -> 
     requires operands { 1 < length registers.old.nest }
     requires room { P.room port.old
         (try_plan (P.shows port.old) registers.old (Plan.ClaimLabel label)).act }
-    ensures { Obeyed P.acts (try_plan (P.shows port.old) registers.old (Plan.ClaimLabel label))
+    ensures { CameTo P.acts (try_plan (P.shows port.old) registers.old (Plan.ClaimLabel label))
         port.old port.new registers.new result }
 {
     match port.claim_label(label) {
@@ -164,7 +164,7 @@ fn obey_pool<P: Port>(registers: &mut Registers, port: &mut P, kind: Kind) -> St
     requires none { free_for (Kinded kind) (P.shows port.old).claims ≡ None }
     requires room { P.room port.old
         (try_plan (P.shows port.old) registers.old (Plan.ClaimKind kind)).act }
-    ensures { Obeyed P.acts (try_plan (P.shows port.old) registers.old (Plan.ClaimKind kind))
+    ensures { CameTo P.acts (try_plan (P.shows port.old) registers.old (Plan.ClaimKind kind))
         port.old port.new registers.new result }
 {
     if !port.may_take(kind) {
@@ -182,7 +182,7 @@ fn obey_kind<P: Port>(registers: &mut Registers, port: &mut P, kind: Kind) -> St
     requires operands { 1 < length registers.old.nest }
     requires room { P.room port.old
         (try_plan (P.shows port.old) registers.old (Plan.ClaimKind kind)).act }
-    ensures { Obeyed P.acts (try_plan (P.shows port.old) registers.old (Plan.ClaimKind kind))
+    ensures { CameTo P.acts (try_plan (P.shows port.old) registers.old (Plan.ClaimKind kind))
         port.old port.new registers.new result }
 {
     match port.claim_kind(kind) {
@@ -202,7 +202,7 @@ fn obey_change<P: Port>(registers: &mut Registers, port: &P, order: Order) -> St
     requires ran { registers.old.ran < u32.MAX }
     requires order { IsOrder order }
     requires change { IsChange order }
-    ensures { Obeyed P.acts (try_change (P.shows port.now) registers.old order)
+    ensures { CameTo P.acts (try_change (P.shows port.now) registers.old order)
         port.now port.now registers.new result }
 {
     let ran = registers.ran;
@@ -223,7 +223,7 @@ pub fn obey_planned<P: Port>(registers: &mut Registers, port: &mut P, planned: P
     requires ran { registers.old.ran < u32.MAX }
     requires can { CanObey (P.shows port.old) registers.old planned }
     requires room { P.room port.old (planned_outcome (P.shows port.old) registers.old planned).act }
-    ensures { Obeyed P.acts (planned_outcome (P.shows port.old) registers.old planned)
+    ensures { CameTo P.acts (planned_outcome (P.shows port.old) registers.old planned)
         port.old port.new registers.new result }
 {
     match planned {

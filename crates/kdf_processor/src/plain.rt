@@ -7,7 +7,7 @@ ghost use Rattle.kdf_processor.specs.Table.{plain_row, link_row, keep_link_row};
 
 use crate::arithmetic::plain_arithmetic;
 use crate::q_store::low;
-use crate::syllable_number::behind;
+use crate::syllable_number::syllable_after;
 use crate::{Failure, Registers};
 use kdf_nest::DEPTH;
 use kdf_word::Word;
@@ -22,7 +22,7 @@ pub fn plain(registers: &mut Registers, code: u8) -> Result<(), Failure>
 {
     match code {
         0x01 => {
-            registers.at = behind(registers.at, 1);
+            registers.at = syllable_after(registers.at, 1);
             Ok(())
         }
         0x1d => link(registers),
@@ -41,7 +41,7 @@ fn link(registers: &mut Registers) -> Result<(), Failure>
     }
     let link = registers.links.pop();
     registers.nest.push(Word::new(u64::from(link)));
-    registers.at = behind(registers.at, 1);
+    registers.at = syllable_after(registers.at, 1);
     Ok(())
 }
 
@@ -54,6 +54,6 @@ fn keep_link(registers: &mut Registers) -> Result<(), Failure>
     }
     let word = registers.nest.pop();
     registers.links.push(low(word));
-    registers.at = behind(registers.at, 1);
+    registers.at = syllable_after(registers.at, 1);
     Ok(())
 }

@@ -2,7 +2,7 @@
 ghost use Rattle.kdf_processor.specs.Effect.{Comes};
 ghost use Rattle.kdf_processor.specs.Table.{pushes, extended};
 
-use crate::syllable_number::behind;
+use crate::syllable_number::syllable_after;
 use crate::{Failure, Registers};
 use kdf_nest::DEPTH;
 use kdf_word::Word;
@@ -16,7 +16,7 @@ pub fn push(registers: &mut Registers, size: u16, word: Word) -> Result<(), Fail
         return Err(Failure::Nouv);
     }
     registers.nest.push(word);
-    registers.at = behind(registers.at, size);
+    registers.at = syllable_after(registers.at, size);
     Ok(())
 }
 

@@ -5,7 +5,7 @@ ghost use Rattle.kdf_syllable.specs.Spelling.{IsQ};
 ghost use Rattle.kdf_processor.specs.Table.{brought, from_top, changed, low, with_nest, with_q};
 
 use crate::Registers;
-use crate::syllable_number::behind;
+use crate::syllable_number::syllable_after;
 use kdf_qstore::{Part, Triple};
 use kdf_word::Word;
 
@@ -71,5 +71,5 @@ pub fn leave(registers: &mut Registers, q: u8, triple: Triple)
     ensures { registers.new ≡ with_nest 2 registers.old.nest (with_q q triple registers.old) }
 {
     registers.q.keep(q, triple);
-    registers.at = behind(registers.at, 2);
+    registers.at = syllable_after(registers.at, 2);
 }

@@ -13,7 +13,7 @@ ghost use Rattle.kdf_processor.specs.Ahead.{IsSmall};
 ghost use Rattle.kdf_processor.specs.Buffered.{Agrees, IsHeld};
 ghost use Rattle.kdf_processor.specs.Effect.{Act};
 ghost use Rattle.kdf_processor.specs.Fetch.{bytes_of};
-ghost use Rattle.kdf_processor.specs.Outcome.{Obeyed, outcome, try_effect};
+ghost use Rattle.kdf_processor.specs.Outcome.{CameTo, outcome, try_effect};
 ghost use Rattle.kdf_processor.specs.Plan.{IsHalf, try_decoded, try_order};
 ghost use Rattle.kdf_processor.specs.Table.{fetches, guarded, keeps};
 
@@ -41,7 +41,7 @@ fn obey_plain<P: Port>(registers: &mut Registers, port: &P, code: u8) -> Option<
     requires ran { registers.old.ran < u32.MAX }
     requires order { IsOrder (order.Plain code) }
     requires not_out { code ≢ 0x21 }
-    ensures obeyed { IfSome result (λ _. Obeyed P.acts
+    ensures obeyed { IfSome result (λ _. CameTo P.acts
         (try_order (P.shows port.now) registers.old (order.Plain code)) port.now port.now registers.new Step.Done) }
     ensures left { IfNone result (registers.new ≡ registers.old) }
 {
@@ -59,7 +59,7 @@ fn obey_plain<P: Port>(registers: &mut Registers, port: &P, code: u8) -> Option<
 fn obey_single<P: Port>(registers: &mut Registers, port: &P, code: u8, q: u8) -> Option<()>
     requires ran { registers.old.ran < u32.MAX }
     requires order { IsOrder (order.Single code q) }
-    ensures obeyed { IfSome result (λ _. Obeyed P.acts
+    ensures obeyed { IfSome result (λ _. CameTo P.acts
         (try_order (P.shows port.now) registers.old (order.Single code q)) port.now port.now registers.new Step.Done) }
     ensures left { IfNone result (registers.new ≡ registers.old) }
 {
@@ -77,7 +77,7 @@ fn obey_single<P: Port>(registers: &mut Registers, port: &P, code: u8, q: u8) ->
 fn obey_copies<P: Port>(registers: &mut Registers, port: &P, code: u8, q: u8, k: u8) -> Option<()>
     requires ran { registers.old.ran < u32.MAX }
     requires order { IsOrder (order.Copies code q k) }
-    ensures obeyed { IfSome result (λ _. Obeyed P.acts
+    ensures obeyed { IfSome result (λ _. CameTo P.acts
         (try_order (P.shows port.now) registers.old (order.Copies code q k)) port.now port.now registers.new
         Step.Done) }
     ensures left { IfNone result (registers.new ≡ registers.old) }
@@ -96,7 +96,7 @@ fn obey_copies<P: Port>(registers: &mut Registers, port: &P, code: u8, q: u8, k:
 fn obey_shift<P: Port>(registers: &mut Registers, port: &P, code: u8, by: Amount) -> Option<()>
     requires ran { registers.old.ran < u32.MAX }
     requires order { IsOrder (order.Shift code by) }
-    ensures obeyed { IfSome result (λ _. Obeyed P.acts
+    ensures obeyed { IfSome result (λ _. CameTo P.acts
         (try_order (P.shows port.now) registers.old (order.Shift code by)) port.now port.now registers.new Step.Done) }
     ensures left { IfNone result (registers.new ≡ registers.old) }
 {
@@ -114,7 +114,7 @@ fn obey_shift<P: Port>(registers: &mut Registers, port: &P, code: u8, by: Amount
 fn obey_jump<P: Port>(registers: &mut Registers, port: &P, c: u8, target: u16) -> Option<()>
     requires ran { registers.old.ran < u32.MAX }
     requires order { IsOrder (order.Jump c target) }
-    ensures obeyed { IfSome result (λ _. Obeyed P.acts
+    ensures obeyed { IfSome result (λ _. CameTo P.acts
         (try_order (P.shows port.now) registers.old (order.Jump c target)) port.now port.now registers.new Step.Done) }
     ensures left { IfNone result (registers.new ≡ registers.old) }
 {
@@ -132,7 +132,7 @@ fn obey_jump<P: Port>(registers: &mut Registers, port: &P, c: u8, target: u16) -
 fn obey_exit<P: Port>(registers: &mut Registers, port: &P, n: u8) -> Option<()>
     requires ran { registers.old.ran < u32.MAX }
     requires order { IsOrder (order.Exit n) }
-    ensures obeyed { IfSome result (λ _. Obeyed P.acts
+    ensures obeyed { IfSome result (λ _. CameTo P.acts
         (try_order (P.shows port.now) registers.old (order.Exit n)) port.now port.now registers.new Step.Done) }
     ensures left { IfNone result (registers.new ≡ registers.old) }
 {
@@ -150,7 +150,7 @@ fn obey_exit<P: Port>(registers: &mut Registers, port: &P, n: u8) -> Option<()>
 fn obey_set<P: Port>(registers: &mut Registers, port: &P, constant: u16) -> Option<()>
     requires ran { registers.old.ran < u32.MAX }
     requires order { IsOrder (order.Set constant) }
-    ensures obeyed { IfSome result (λ _. Obeyed P.acts
+    ensures obeyed { IfSome result (λ _. CameTo P.acts
         (try_order (P.shows port.now) registers.old (order.Set constant)) port.now port.now registers.new Step.Done) }
     ensures left { IfNone result (registers.new ≡ registers.old) }
 {
@@ -170,7 +170,7 @@ fn fetch<P: Port>(registers: &mut Registers, port: &P, access: Access) -> Option
     requires ran { registers.old.ran < u32.MAX }
     requires half { IsHalf access.half }
     requires q { IsQ access.q }
-    ensures obeyed { IfSome result (λ _. Obeyed P.acts (try_effect (P.shows port.now) registers.old
+    ensures obeyed { IfSome result (λ _. CameTo P.acts (try_effect (P.shows port.now) registers.old
         (guarded (P.shows port.now).claims
         (fetches registers.old access.size access.address access.half access.u access.q)))
         port.now port.now registers.new Step.Done) }
@@ -203,7 +203,7 @@ fn keep<P: Reserve>(
     requires q { IsQ access.q }
     requires small { (act : Act) → IsSmall act → P.room port.old act }
     requires agrees { Agrees (P.shows port.old) held.old }
-    ensures obeyed { IfSome result (λ _. Obeyed P.acts (try_effect (P.shows port.old) registers.old
+    ensures obeyed { IfSome result (λ _. CameTo P.acts (try_effect (P.shows port.old) registers.old
         (guarded (P.shows port.old).claims
         (keeps registers.old access.size access.address access.half access.u access.q)))
         port.old port.new registers.new Step.Done) }
@@ -239,7 +239,7 @@ fn obey_modified<P: Reserve>(
     requires q { IsQ q }
     requires small { (act : Act) → IsSmall act → P.room port.old act }
     requires agrees { Agrees (P.shows port.old) held.old }
-    ensures obeyed { IfSome result (λ _. Obeyed P.acts
+    ensures obeyed { IfSome result (λ _. CameTo P.acts
         (try_order (P.shows port.old) registers.old (order.Direct t u q a)) port.old port.new registers.new Step.Done) }
     ensures left { IfNone result ((registers.new ≡ registers.old) × (port.new ≡ port.old)) }
     ensures agrees { Agrees (P.shows port.new) held.new }
@@ -267,7 +267,7 @@ fn obey_direct<P: Reserve>(
     requires q { IsQ q }
     requires small { (act : Act) → IsSmall act → P.room port.old act }
     requires agrees { Agrees (P.shows port.old) held.old }
-    ensures obeyed { IfSome result (λ _. Obeyed P.acts
+    ensures obeyed { IfSome result (λ _. CameTo P.acts
         (try_order (P.shows port.old) registers.old (order.Direct t u q a)) port.old port.new registers.new Step.Done) }
     ensures left { IfNone result ((registers.new ≡ registers.old) × (port.new ≡ port.old)) }
     ensures agrees { Agrees (P.shows port.new) held.new }
@@ -293,7 +293,7 @@ fn obey_indirect<P: Reserve>(
     requires q { IsQ q }
     requires small { (act : Act) → IsSmall act → P.room port.old act }
     requires agrees { Agrees (P.shows port.old) held.old }
-    ensures obeyed { IfSome result (λ _. Obeyed P.acts
+    ensures obeyed { IfSome result (λ _. CameTo P.acts
         (try_order (P.shows port.old) registers.old (order.Indirect code k q)) port.old port.new registers.new
         Step.Done) }
     ensures left { IfNone result ((registers.new ≡ registers.old) × (port.new ≡ port.old)) }
@@ -316,7 +316,7 @@ fn obey_one<P: Port>(
 ) -> Option<()>
     requires ran { registers.old.ran < u32.MAX }
     requires order { IfOk decoded (λ o. IsOrder o) }
-    ensures obeyed { IfSome result (λ _. Obeyed P.acts
+    ensures obeyed { IfSome result (λ _. CameTo P.acts
         (try_decoded (P.shows port.now) registers.old (result_ok decoded)) port.now port.now registers.new Step.Done) }
     ensures left { IfNone result (registers.new ≡ registers.old) }
 {
@@ -330,7 +330,7 @@ fn obey_one<P: Port>(
 #[inline(always)]
 fn obey_code<P: Port>(registers: &mut Registers, port: &P, code: u8) -> Option<()>
     requires ran { registers.old.ran < u32.MAX }
-    ensures obeyed { IfSome result (λ _. Obeyed P.acts
+    ensures obeyed { IfSome result (λ _. CameTo P.acts
         (try_decoded (P.shows port.now) registers.old (decoded_one code)) port.now port.now registers.new Step.Done) }
     ensures left { IfNone result (registers.new ≡ registers.old) }
 {
@@ -341,7 +341,7 @@ fn obey_code<P: Port>(registers: &mut Registers, port: &P, code: u8) -> Option<(
 #[inline(always)]
 fn obey_by_code<P: Port>(registers: &mut Registers, port: &P, code: u8) -> Option<()>
     requires ran { registers.old.ran < u32.MAX }
-    ensures obeyed { IfSome result (λ _. Obeyed P.acts
+    ensures obeyed { IfSome result (λ _. CameTo P.acts
         (try_decoded (P.shows port.now) registers.old (decoded_one code)) port.now port.now registers.new Step.Done) }
     ensures left { IfNone result (registers.new ≡ registers.old) }
 {
@@ -393,7 +393,7 @@ fn obey_two<P: Reserve>(
     requires order { IfOk decoded (λ o. IsOrder o) }
     requires small { (act : Act) → IsSmall act → P.room port.old act }
     requires agrees { Agrees (P.shows port.old) held.old }
-    ensures obeyed { IfSome result (λ _. Obeyed P.acts
+    ensures obeyed { IfSome result (λ _. CameTo P.acts
         (try_decoded (P.shows port.old) registers.old (result_ok decoded)) port.old port.new registers.new Step.Done) }
     ensures left { IfNone result ((registers.new ≡ registers.old) × (port.new ≡ port.old)) }
     ensures agrees { Agrees (P.shows port.new) held.new }
@@ -419,7 +419,7 @@ fn obey_pair<P: Reserve>(
     requires ran { registers.old.ran < u32.MAX }
     requires small { (act : Act) → IsSmall act → P.room port.old act }
     requires agrees { Agrees (P.shows port.old) held.old }
-    ensures obeyed { IfSome result (λ _. Obeyed P.acts
+    ensures obeyed { IfSome result (λ _. CameTo P.acts
         (try_decoded (P.shows port.old) registers.old (decoded_two code second)) port.old port.new registers.new Step.Done) }
     ensures left { IfNone result ((registers.new ≡ registers.old) × (port.new ≡ port.old)) }
     ensures agrees { Agrees (P.shows port.new) held.new }
@@ -439,7 +439,7 @@ fn obey_by_pair<P: Reserve>(
     requires ran { registers.old.ran < u32.MAX }
     requires small { (act : Act) → IsSmall act → P.room port.old act }
     requires agrees { Agrees (P.shows port.old) held.old }
-    ensures obeyed { IfSome result (λ _. Obeyed P.acts
+    ensures obeyed { IfSome result (λ _. CameTo P.acts
         (try_decoded (P.shows port.old) registers.old (decoded_two code second)) port.old port.new registers.new Step.Done) }
     ensures left { IfNone result ((registers.new ≡ registers.old) × (port.new ≡ port.old)) }
     ensures agrees { Agrees (P.shows port.new) held.new }
@@ -464,7 +464,7 @@ fn obey_going<P: Port>(
 ) -> Option<()>
     requires ran { registers.old.ran < u32.MAX }
     requires order { IfOk decoded (λ o. IsOrder o) }
-    ensures obeyed { IfSome result (λ _. Obeyed P.acts
+    ensures obeyed { IfSome result (λ _. CameTo P.acts
         (try_decoded (P.shows port.now) registers.old (result_ok decoded)) port.now port.now registers.new Step.Done) }
     ensures left { IfNone result (registers.new ≡ registers.old) }
 {
@@ -485,7 +485,7 @@ fn obey_triple<P: Port>(
     third: u8,
 ) -> Option<()>
     requires ran { registers.old.ran < u32.MAX }
-    ensures obeyed { IfSome result (λ _. Obeyed P.acts
+    ensures obeyed { IfSome result (λ _. CameTo P.acts
         (try_decoded (P.shows port.now) registers.old (decoded_jump first second third)) port.now port.now registers.new
         Step.Done) }
     ensures left { IfNone result (registers.new ≡ registers.old) }
@@ -503,7 +503,7 @@ fn obey_by_triple<P: Port>(
     third: u8,
 ) -> Option<()>
     requires ran { registers.old.ran < u32.MAX }
-    ensures obeyed { IfSome result (λ _. Obeyed P.acts
+    ensures obeyed { IfSome result (λ _. CameTo P.acts
         (try_decoded (P.shows port.now) registers.old (decoded_jump first second third)) port.now port.now registers.new
         Step.Done) }
     ensures left { IfNone result (registers.new ≡ registers.old) }
@@ -526,7 +526,7 @@ fn obey_store<P: Reserve>(
     requires order { IfOk decoded (λ o. IsOrder o) }
     requires small { (act : Act) → IsSmall act → P.room port.old act }
     requires agrees { Agrees (P.shows port.old) held.old }
-    ensures obeyed { IfSome result (λ _. Obeyed P.acts
+    ensures obeyed { IfSome result (λ _. CameTo P.acts
         (try_decoded (P.shows port.old) registers.old (result_ok decoded)) port.old port.new registers.new Step.Done) }
     ensures left { IfNone result ((registers.new ≡ registers.old) × (port.new ≡ port.old)) }
     ensures agrees { Agrees (P.shows port.new) held.new }
@@ -551,7 +551,7 @@ fn obey_spelt<P: Reserve>(
     requires ran { registers.old.ran < u32.MAX }
     requires small { (act : Act) → IsSmall act → P.room port.old act }
     requires agrees { Agrees (P.shows port.old) held.old }
-    ensures obeyed { IfSome result (λ _. Obeyed P.acts
+    ensures obeyed { IfSome result (λ _. CameTo P.acts
         (try_decoded (P.shows port.old) registers.old (first_decoded (first ∷ second ∷ third ∷ [])))
         port.old port.new registers.new Step.Done) }
     ensures left { IfNone result ((registers.new ≡ registers.old) × (port.new ≡ port.old)) }
@@ -576,7 +576,7 @@ fn obey_bits<P: Reserve>(
     requires ran { registers.old.ran < u32.MAX }
     requires small { (act : Act) → IsSmall act → P.room port.old act }
     requires agrees { Agrees (P.shows port.old) held.old }
-    ensures obeyed { IfSome result (λ _. Obeyed P.acts
+    ensures obeyed { IfSome result (λ _. CameTo P.acts
         (try_decoded (P.shows port.old) registers.old (first_decoded (bytes_of bits)))
         port.old port.new registers.new Step.Done) }
     ensures left { IfNone result ((registers.new ≡ registers.old) × (port.new ≡ port.old)) }
@@ -600,7 +600,7 @@ fn obey_from<P: Reserve>(
     requires held { IsHeld (P.shows port.old) word }
     requires low { word.first ≤ registers.old.at }
     requires high { registers.old.at < word.first + 6 }
-    ensures obeyed { IfSome result (λ _. Obeyed P.acts (outcome (P.shows port.old) registers.old)
+    ensures obeyed { IfSome result (λ _. CameTo P.acts (outcome (P.shows port.old) registers.old)
         port.old port.new registers.new Step.Done) }
     ensures left { IfNone result ((registers.new ≡ registers.old) × (port.new ≡ port.old)) }
     ensures agrees { Agrees (P.shows port.new) held.new }
@@ -622,7 +622,7 @@ pub fn obey_quickly<P: Reserve>(
     requires ran { registers.old.ran < u32.MAX }
     requires small { (act : Act) → IsSmall act → P.room port.old act }
     requires agrees { Agrees (P.shows port.old) held.old }
-    ensures obeyed { IfSome result (λ _. Obeyed P.acts (outcome (P.shows port.old) registers.old)
+    ensures obeyed { IfSome result (λ _. CameTo P.acts (outcome (P.shows port.old) registers.old)
         port.old port.new registers.new Step.Done) }
     ensures left { IfNone result ((registers.new ≡ registers.old) × (port.new ≡ port.old)) }
     ensures agrees { Agrees (P.shows port.new) held.new }

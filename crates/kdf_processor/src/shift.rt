@@ -2,7 +2,7 @@
 ghost use Rattle.std.specs.Prelude.{◌≡◌};
 ghost use Rattle.kdf_syllable.specs.declared.order.Order.TheVariants as order;
 ghost use Rattle.kdf_syllable.specs.Spelling.{IsOrder, IsAmount};
-ghost use Rattle.kdf_arith.specs.Arith.{arith};
+ghost use Rattle.kdf_arith.specs.Arith.{arith_result};
 ghost use Rattle.kdf_arith.specs.declared.order.ArithOrder.TheVariants as arithmetic;
 ghost use Rattle.kdf_processor.specs.Effect.{Comes};
 ghost use Rattle.kdf_processor.specs.Table.{arith_changes, places_of};
@@ -28,7 +28,7 @@ pub fn shift(registers: &mut Registers, code: u8, by: Amount) -> Result<(), Fail
     requires { IsOrder (order.Shift code by) }
     ensures { Comes
         (arith_changes 2 registers.old
-        (arith (arithmetic.Shift code (places_of registers.old by)) registers.old.nest registers.old.flags))
+        (arith_result (arithmetic.Shift code (places_of registers.old by)) registers.old.nest registers.old.flags))
         registers.old registers.new result }
 {
     let n = places(registers, by);

@@ -9,7 +9,7 @@ ghost use Rattle.kdf_processor.specs.Table.{from_top, sets_q, short_loop, single
 
 use crate::push::push;
 use crate::q_store::{brought, changed, from_top, leave};
-use crate::syllable_number::behind;
+use crate::syllable_number::syllable_after;
 use crate::{Failure, Registers};
 
 /// An order on Qq.
@@ -59,7 +59,7 @@ fn loop_back(registers: &mut Registers, counter: u16)
     ensures uncounted { IsUncounted registers.old registers.new }
 {
     registers.at = if counter == 0 {
-        behind(registers.at, 2)
+        syllable_after(registers.at, 2)
     } else {
         6 * ((registers.at / 6 + 8191) % 8192)
     };

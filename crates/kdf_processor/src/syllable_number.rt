@@ -1,14 +1,14 @@
 //! Syllable numbers: six for each of 8,192 words, counted around.
 ghost use Rattle.std.specs.Prelude.{◌≡◌, ◌%◌};
-ghost use Rattle.kdf_processor.specs.Table.{on};
+ghost use Rattle.kdf_processor.specs.Table.{syllable_after};
 
 /// How many syllable numbers there are.
 const SYLLABLES: u32 = 49_152;
 
 /// The syllable number that is `count` syllables on.
 #[inline(always)]
-pub fn behind(at: u16, count: u16) -> u16
-    ensures { result ≡ on at count }
+pub fn syllable_after(at: u16, count: u16) -> u16
+    ensures { result ≡ syllable_after at count }
 {
     let number = u32::from(at) + u32::from(count);
     if number < SYLLABLES {

@@ -11,9 +11,10 @@ use Rattle.kdf_schedule.specs.declared.event.EventFault.{EventFault}
 use Rattle.kdf_schedule.specs.declared.event.EventFault.TheVariants as event_fault
 use Rattle.kdf_schedule.specs.Events.{event}
 use Rattle.kdf_job.specs.declared.fault.JobFault.{JobFault}
-use Rattle.kdf_job.specs.declared.place.Place.{Place}
-use Rattle.kdf_job.specs.declared.place.Place.TheVariants.{First, BehindHeader, BehindSlot, BehindStore, InDeck, BehindDeck, BehindService, BehindDevice}
-use Rattle.kdf_job.specs.declared.place.Place.TheVariants.{BehindShow, BehindPool, InSchedule, BehindEnd}
+use Rattle.kdf_job.specs.declared.line_place.LinePlace.{LinePlace}
+use Rattle.kdf_job.specs.declared.line_place.LinePlace.TheVariants.{First, BehindHeader, BehindSlot, BehindStore, InDeck, BehindDeck, BehindService}
+use Rattle.kdf_job.specs.declared.line_place.LinePlace.TheVariants.{BehindDevice}
+use Rattle.kdf_job.specs.declared.line_place.LinePlace.TheVariants.{BehindShow, BehindPool, InSchedule, BehindEnd}
 use Rattle.kdf_job.specs.Forms.{Form, AHeader, ASlot, AStore, ADeck, ADeckLine, AnEndDeck, AService, ADevice, AMedium, AShow, APool, APoolDevice, ASchedule}
 use Rattle.kdf_job.specs.Forms.{AnEndJob, Told, told, or_bad, alone, addresses, described, device_line, device_named, device_or_end, device_words, event_line}
 use Rattle.kdf_job.specs.Forms.{first_told, job_ends, kind_named, medium_line, no_medium, number_line, numbered, of_event, one_number, pool_device_or_end}
@@ -36,7 +37,7 @@ abbrev pub IsElse : Form → Type 0
 IsElse form = IsInRange form × (is_store form ≡ false)
 
 -- a size is told after the number of a slot alone
-abbrev pub IsToldAt : Place → Form → Type 0
+abbrev pub IsToldAt : LinePlace → Form → Type 0
 IsToldAt (BehindSlot p) form = IsInRange form
 IsToldAt place form = IsElse form
 
@@ -185,7 +186,7 @@ if_end : (is : Bool) (line : List ℕ) (form : Form) → ◌≡◌ {A = Result F
 if_end true line form e = let is : AnEndDeck ≡ form = cc in subst IsElse is (tt, refl)
 if_end false line form e = let is : ADeckLine line ≡ form = cc in subst IsElse is (tt, refl)
 
-pub told_form : (place : Place) (line : List ℕ) (form : Form) → told_at place line ≡ Ok form → IsToldAt place form
+pub told_form : (place : LinePlace) (line : List ℕ) (form : Form) → told_at place line ≡ Ok form → IsToldAt place form
 told_form First line form e = if_header (is_text (codes "KDF9 JOB 1") line) _ form e
 told_form BehindHeader line form e = first_fits IsElse (slot_line line ∷ []) form (slot_fits line, tt) e
 told_form (BehindSlot p) line form e = first_fits IsInRange (store_line line ∷ []) form (store_fits line, tt) e

@@ -13,7 +13,7 @@ use Rattle.kdf_processor.specs.Needs.{next_effect}
 use Rattle.kdf_processor.specs.Row.{transferred, perform}
 use Rattle.kdf_processor.specs.State.{Claims, State, Stock, begin, device_limit, fixture_at, own_fixture_at}
 use Rattle.kdf_processor.proofs.RowFacts.{next_answer}
-use Rattle.kdf_job.specs.Job.{JobDevice, SlotJob}
+use Rattle.kdf_job.specs.Job.{JobDevice, ShownSlot}
 use Rattle.kdf_job.specs.Slots.{fixture_on, numbered, slot_of}
 use Rattle.kdf_job.specs.WellFormed.{IsSlot}
 use Rattle.kdf_report.specs.Devices.{device_numbers, has_device}
@@ -69,7 +69,7 @@ found_there : (devices : List JobDevice) (d : ℕ) → is_some (fixture_on (numb
 found_there [] d = refl
 found_there (x ∷ devices) d = some_found (x.d == d) x (numbered devices d) ∙ ap (λ b. x.d == d || b) (found_there devices d)
 
-own_at_start : (slot : SlotJob) (words : List ℕ) → own_numbers (begin (slot_of slot words)) ≡ device_numbers slot
+own_at_start : (slot : ShownSlot) (words : List ℕ) → own_numbers (begin (slot_of slot words)) ≡ device_numbers slot
 unfolding own_numbers device_numbers
 own_at_start slot words =
     filter_same (λ d. is_some (own_fixture_at (begin (slot_of slot words)).stock.claims d)) (has_device slot) 0 device_limit
@@ -80,7 +80,7 @@ unfolding own_numbers
 own_same s t fixtures =
     ap (λ (fs : List (Option Fixture)). filter (λ d. is_some (slice_index_or fs d None)) (range_with_len 0 device_limit)) fixtures
 
-pub program_of : (slot : SlotJob) (words answers : List ℕ) (n : ℕ) → IsSlot slot → IsProgramOf slot (lone (begin (slot_of slot words)) answers n)
+pub program_of : (slot : ShownSlot) (words answers : List ℕ) (n : ℕ) → IsSlot slot → IsProgramOf slot (lone (begin (slot_of slot words)) answers n)
 program_of slot words answers n is =
     let same = same_lone (begin (slot_of slot words)) answers n in
     record {
@@ -90,7 +90,7 @@ program_of slot words answers n is =
     }
 
 -- and so is what it comes to, step by step
-pub ran_from : (slot : SlotJob) (words answers : List ℕ) (n : ℕ) (t s : State) → IsSlot slot → t ≡ begin (slot_of slot words) → s ≡ lone t answers n
+pub ran_from : (slot : ShownSlot) (words answers : List ℕ) (n : ℕ) (t s : State) → IsSlot slot → t ≡ begin (slot_of slot words) → s ≡ lone t answers n
     → IsProgramOf slot s
 ran_from slot words answers n t s is at_start after =
     subst (IsProgramOf slot) (sym (after ∙ ap (λ (x : State). lone x answers n) at_start)) (program_of slot words answers n is)

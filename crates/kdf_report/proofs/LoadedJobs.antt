@@ -3,12 +3,12 @@ use Rattle.std.proofs.Common.{◌≡◌, ℕ, ◌≤◌, Bool, true, false, cond
 use Rattle.std.specs.Prelude.{nat_lt}
 use Rattle.std.proofs.lemmas.Bool.Decides.{nat_tests}
 use Rattle.kdf_usercode.specs.declared.statement.Statement.{Statement}
-use Rattle.kdf_usercode.specs.Faults.{Found, least}
+use Rattle.kdf_usercode.specs.Faults.{FoundFault, least}
 use Rattle.kdf_usercode.specs.Grammar.{deck}
 use Rattle.kdf_place.specs.Assembled.{assembled, image_words, placed_if_read, words_or_none}
 use Rattle.kdf_place.specs.Late.{late_faults}
 use Rattle.kdf_place.specs.Placement.{Picture, picture_of, placed, sized, verdict}
-use Rattle.kdf_job.specs.Job.{SlotJob}
+use Rattle.kdf_job.specs.Job.{ShownSlot}
 use Rattle.kdf_job.specs.Reading.{job, job_fault}
 use Rattle.kdf_job.specs.WellFormed.{AreSlots}
 use Rattle.kdf_theory.specs.Loading as loading
@@ -20,7 +20,7 @@ use Rattle.kdf_report.proofs.FaultlessJobs.{bare, faultless}
 
 -- ---- an image fits its store
 
-if_fits : (large : Bool) (fault : Found) (picture : Picture) (size : ℕ) → (large ≡ false → length picture.words ≤ size)
+if_fits : (large : Bool) (fault : FoundFault) (picture : Picture) (size : ℕ) → (large ≡ false → length picture.words ≤ size)
     → length (words_or_none (cond large (Err fault) (Ok picture))) ≤ size
 if_fits true fault picture size fits = omega arith
 if_fits false fault picture size fits = fits refl
@@ -31,7 +31,8 @@ not_large size n small = grind (arith, nat_tests)
 sized_fits : (picture : Picture) (len size : ℕ) → length (words_or_none (sized picture len size)) ≤ size
 sized_fits picture len size = if_fits (nat_lt size (length picture.words)) _ picture size (λ small. not_large size (length picture.words) small)
 
-verdict_fits : (o : Option Found) (rest : Result Picture Found) (size : ℕ) → length (words_or_none rest) ≤ size → length (words_or_none (verdict o rest)) ≤ size
+verdict_fits : (o : Option FoundFault) (rest : Result Picture FoundFault) (size : ℕ) → length (words_or_none rest) ≤ size
+    → length (words_or_none (verdict o rest)) ≤ size
 verdict_fits None rest size fits = fits
 verdict_fits (Some fault) rest size fits = omega arith
 
@@ -39,7 +40,7 @@ placed_fits : (ss : List Statement) (len size : ℕ) → length (words_or_none (
 unfolding placed
 placed_fits ss len size = verdict_fits (least (late_faults ss)) (sized (picture_of ss) len size) size (sized_fits (picture_of ss) len size)
 
-read_fits : (r : Result (List Statement) Found) (len size : ℕ) → length (words_or_none (placed_if_read r len size)) ≤ size
+read_fits : (r : Result (List Statement) FoundFault) (len size : ℕ) → length (words_or_none (placed_if_read r len size)) ≤ size
 read_fits (Ok ss) len size = placed_fits ss len size
 read_fits (Err early) len size = omega arith
 
@@ -47,27 +48,27 @@ image_fits : (size : ℕ) (text : List ℕ) → length (image_words size text) �
 unfolding assembled
 image_fits size text = read_fits (deck text) (length text) size
 
-pub have_images : (slots : List SlotJob) → HaveImages slots (images_of slots)
+pub have_images : (slots : List ShownSlot) → HaveImages slots (images_of slots)
 have_images [] = tt
 have_images (s ∷ slots) = (image_fits s.size s.deck, have_images slots)
 
 -- ---- no deck is loaded, and nothing of what is to be shown
 
-loads_bare : (slots : List SlotJob) (images : List (List ℕ)) → loads (map bare slots) images ≡ loads slots images
+loads_bare : (slots : List ShownSlot) (images : List (List ℕ)) → loads (map bare slots) images ≡ loads slots images
 loads_bare [] images = refl
 loads_bare (s ∷ slots) [] = refl
 loads_bare (s ∷ slots) (words ∷ images) = ap (λ (later : List SlotLoad). load_of s words ∷ later) (loads_bare slots images)
 
-have_bare : (slots : List SlotJob) (images : List (List ℕ)) → HaveImages slots images → HaveImages (map bare slots) images
+have_bare : (slots : List ShownSlot) (images : List (List ℕ)) → HaveImages slots images → HaveImages (map bare slots) images
 have_bare [] images have = have
 have_bare (s ∷ slots) [] have = have
 have_bare (s ∷ slots) (words ∷ images) have = (have.0, have_bare slots images have.1)
 
 -- slots that are well formed but for their decks
-bare_slots : (slots : List SlotJob) (images : List (List ℕ)) → AreSlots (map bare slots) → HaveImages slots images
+bare_slots : (slots : List ShownSlot) (images : List (List ℕ)) → AreSlots (map bare slots) → HaveImages slots images
     → director.AreSlots (loading.slots_of slots images)
 bare_slots slots images are have =
-    subst (λ (xs : List SlotLoad). director.AreSlots (map loading.slot_of xs)) (loads_bare slots images)
+    subst (λ (xs : List SlotLoad). director.AreSlots (map loading.loaded_slot xs)) (loads_bare slots images)
     (are_slots (loads (map bare slots) images) (are_loads (map bare slots) images are (have_bare slots images have)))
 
 pub loaded_slots : (bytes : List ℕ) → job_fault bytes ≡ None → director.AreSlots (slots_of (job bytes))

@@ -9,10 +9,10 @@ use Rattle.kdf_transfer.specs.declared.device.Device.{Device}
 use Rattle.kdf_processor.specs.Claims.{is_claimed}
 use Rattle.kdf_processor.specs.State.{Lending, State, device_limit, lendings, own_fixture_at}
 use Rattle.kdf_processor.specs.Stints.{IsStint}
-use Rattle.kdf_job.specs.Job.{JobDevice, SlotJob}
+use Rattle.kdf_job.specs.Job.{JobDevice, ShownSlot}
 use Rattle.kdf_job.specs.Shows.{shown_device}
 use Rattle.kdf_alone.specs.Program as alone
-use Rattle.kdf_theory.specs.Shown as machine
+use Rattle.kdf_theory.specs.MachineView as machine
 use Rattle.kdf_report.specs.Devices.{device_numbers, has_device}
 use Rattle.kdf_report.specs.MadeFrom.{own_numbers}
 
@@ -60,7 +60,7 @@ passes_there p a (suc n) k low high =
 -- ---- devices of a program and of its slot
 
 -- a program has a device of a number where its slot has
-pub has_own : (slot : SlotJob) (s : State) (d : ℕ) → d < device_limit → own_numbers s ≡ device_numbers slot
+pub has_own : (slot : ShownSlot) (s : State) (d : ℕ) → d < device_limit → own_numbers s ≡ device_numbers slot
     → has_device slot d ≡ is_some (own_fixture_at s.stock.claims d)
 unfolding own_numbers device_numbers
 has_own slot s d small own =
@@ -85,7 +85,7 @@ none_there (Some f) e = cc
 -- ---- the program of a slot in a machine
 
 -- where the slot has the device of a number, the program shows it
-pub device_there : (o : Option State) (slot : SlotJob) (other : State) (d : ℕ) (r : Option Device) → is_some o ≡ true
+pub device_there : (o : Option State) (slot : ShownSlot) (other : State) (d : ℕ) (r : Option Device) → is_some o ≡ true
     → own_numbers (unwrap_or o other) ≡ device_numbers slot → d < device_limit
     → has_device slot d ≡ true → IfSome o (λ (s : State). is_some (own_fixture_at s.stock.claims d) ≡ true → machine.IsDeviceAt s d r)
     → alone.IsDeviceAt (unwrap_or o other) d r
@@ -101,7 +101,7 @@ claimed_there None other d r there own is = cc
 claimed_there (Some s) other d r there own is = is own
 
 -- and where it hasn't, there is none
-pub no_device : (slot : SlotJob) (s : State) (d : ℕ) → own_numbers s ≡ device_numbers slot → d < device_limit → has_device slot d ≡ false
+pub no_device : (slot : ShownSlot) (s : State) (d : ℕ) → own_numbers s ≡ device_numbers slot → d < device_limit → has_device slot d ≡ false
     → own_fixture_at s.stock.claims d ≡ None
 no_device slot s d own small hasnt = none_there (own_fixture_at s.stock.claims d) (sym (has_own slot s d small own) ∙ hasnt)
 

@@ -12,16 +12,16 @@ use Rattle.kdf_processor.specs.State.{State, begin, device_limit, is_pooled, sto
 use Rattle.kdf_processor.specs.Stints.{HasPool, IsLent}
 use Rattle.kdf_processor.proofs.Lending.{begin_lent, row_lent}
 use Rattle.kdf_processor.proofs.RowFacts.{live_step, next_answer, over_step}
-use Rattle.kdf_job.specs.Draft.{numbers_in, numbers_of}
-use Rattle.kdf_job.specs.Job.{JobDevice, SlotJob}
+use Rattle.kdf_job.specs.Draft.{pool_numbers, numbers_of}
+use Rattle.kdf_job.specs.Job.{JobDevice, ShownSlot}
 use Rattle.kdf_job.specs.Reading.{job, job_fault}
 use Rattle.kdf_job.specs.Slots.{lent_kind, numbered, progress_on, slot_of}
 use Rattle.kdf_job.specs.WellFormed.{AreSlots}
-use Rattle.kdf_job.proofs.Numbers.{apart, ds, found, has, in_slots, lent}
+use Rattle.kdf_job.proofs.Numbers.{not_in_both, ds, found, has, in_slots, lent}
 use Rattle.kdf_report.proofs.FaultlessJobs.{bare, faultless}
 
-module _ (slots : List SlotJob) (are : AreSlots slots) (i : ℕ) (x : SlotJob) (inside : i < length slots) (words : List ℕ) where
-  abbrev s : SlotJob
+module _ (slots : List ShownSlot) (are : AreSlots slots) (i : ℕ) (x : ShownSlot) (inside : i < length slots) (words : List ℕ) where
+  abbrev s : ShownSlot
   s = get_or slots i x
 
   few : (d : ℕ) → is_pooled (stocked (slot_of s words)).claims d ≡ true → d < device_limit
@@ -36,11 +36,11 @@ module _ (slots : List SlotJob) (are : AreSlots slots) (i : ℕ) (x : SlotJob) (
   not_own d pooled =
       ⊎_elim
       (λ (own : has (ds s.devices) d ≡ true).
-      absurd (false≢true (sym (apart (numbers_of slots) (numbers_in s.pool) d (are.owned i x inside) (in_slots slots i x d inside own)) ∙ there)))
+      absurd (false≢true (sym (not_in_both (numbers_of slots) (pool_numbers s.pool) d (are.owned i x inside) (in_slots slots i x d inside own)) ∙ there)))
       (λ (none : has (ds s.devices) d ≡ false). none)
       (cases_Bool (has (ds s.devices) d))
     where
-      there : has (numbers_in s.pool) d ≡ true
+      there : has (pool_numbers s.pool) d ≡ true
       there =
           let low = few d pooled in
           sym (lent s.pool d) ∙ ap is_some (sym (number_at (lent_kind s.pool) d None (let e = limit_is in omega arith))) ∙ pooled
@@ -60,11 +60,11 @@ module _ (slots : List SlotJob) (are : AreSlots slots) (i : ℕ) (x : SlotJob) (
             ∙ nothing_on (numbered s.devices d) (found s.devices d ∙ not_own d pooled);
       }
 
-pub job_pools : (bytes words : List ℕ) → job_fault bytes ≡ None → All (λ (s : SlotJob). HasPool (slot_of s words)) (job bytes).slots
+pub job_pools : (bytes words : List ℕ) → job_fault bytes ≡ None → All (λ (s : ShownSlot). HasPool (slot_of s words)) (job bytes).slots
 job_pools bytes words free i x lt =
-    let slots : List SlotJob = (job bytes).slots in
+    let slots : List ShownSlot = (job bytes).slots in
     let inside : i < length (map bare slots) = let n = length-map slots bare in omega arith in
-    subst (λ (s : SlotJob). HasPool (slot_of s words)) (get_or-map bare slots i x x lt) (pool_at (map bare slots) (faultless bytes free) i x inside words)
+    subst (λ (s : ShownSlot). HasPool (slot_of s words)) (get_or-map bare slots i x x lt) (pool_at (map bare slots) (faultless bytes free) i x inside words)
 
 -- ---- what holds of the stints of a program run alone
 
@@ -79,7 +79,7 @@ lone_lent : (start : State) (answers : List ℕ) (n : ℕ) → IsLent start → 
 lone_lent start answers zero is = is
 lone_lent start answers (suc n) is = step_lent answers (lone start answers n) (lone_lent start answers n is)
 
-pub job_lent : (bytes words answers : List ℕ) (n : ℕ) → job_fault bytes ≡ None → All (λ (s : SlotJob). IsLent (lone (begin (slot_of s words)) answers n))
+pub job_lent : (bytes words answers : List ℕ) (n : ℕ) → job_fault bytes ≡ None → All (λ (s : ShownSlot). IsLent (lone (begin (slot_of s words)) answers n))
     (job bytes).slots
 job_lent bytes words answers n free i x lt =
     let slot : Slot = slot_of (get_or (job bytes).slots i x) words in

@@ -10,7 +10,7 @@ use Rattle.kdf_processor.specs.Lone.{is_live}
 use Rattle.kdf_transfer.specs.Slots.{Slot}
 use Rattle.kdf_processor.specs.State.{State}
 use Rattle.kdf_place.specs.Assembled.{image_words}
-use Rattle.kdf_job.specs.Job.{Job, SlotJob}
+use Rattle.kdf_job.specs.Job.{ShownJob, ShownSlot}
 use Rattle.kdf_job.specs.Reading.{job, job_fault}
 use Rattle.kdf_job.specs.SlotLines.{pool_lines, slot_lines}
 use Rattle.kdf_job.proofs.SlotReadings.{slots_told_alike}
@@ -27,26 +27,27 @@ use Rattle.kdf_report.specs.Worlds.{section_of}
 use Rattle.kdf_report.proofs.LoadedJobs.{loaded_slots}
 
 -- a slot with the image of its deck
-abbrev loaded : SlotJob → Slot
-loaded s = loading.slot_of (load_of s (image_words s.size s.deck))
+abbrev loaded : ShownSlot → Slot
+loaded s = loading.loaded_slot (load_of s (image_words s.size s.deck))
 
-found_first : (is : Bool) (s : SlotJob) (o : Option SlotJob) (other : Option Slot) → other ≡ option_map loaded o
+found_first : (is : Bool) (s : ShownSlot) (o : Option ShownSlot) (other : Option Slot) → other ≡ option_map loaded o
     → cond is (Some (loaded s)) other ≡ option_map loaded (cond is (Some s) o)
 found_first true s o other e = refl
 found_first false s o other e = e
 
 -- what is loaded of the slot of a number
-found_loaded : (slots : List SlotJob) (p : ℕ) → slot_of (loading.slots_of slots (images_of slots)) p ≡ option_map loaded (slot_numbered slots p)
+found_loaded : (slots : List ShownSlot) (p : ℕ) → slot_of (loading.slots_of slots (images_of slots)) p ≡ option_map loaded (slot_numbered slots p)
 found_loaded [] p = refl
 found_loaded (s ∷ slots) p = found_first (nat_eq s.p p) s _ _ (found_loaded slots p)
 
 -- so a program begins alike where its slot is the same
-begins_alike : (first second : Job) (p : ℕ) → slot_numbered first.slots p ≡ slot_numbered second.slots p → start (slots_of first) p ≡ start (slots_of second) p
+begins_alike : (first second : ShownJob) (p : ℕ) → slot_numbered first.slots p ≡ slot_numbered second.slots p
+    → start (slots_of first) p ≡ start (slots_of second) p
 begins_alike first second p same =
-    ap start_of (found_loaded first.slots p ∙ ap (λ (o : Option SlotJob). option_map loaded o) same ∙ sym (found_loaded second.slots p))
+    ap start_of (found_loaded first.slots p ∙ ap (λ (o : Option ShownSlot). option_map loaded o) same ∙ sym (found_loaded second.slots p))
 
 -- a program that is live in neither of two journals, and was answered alike
-module _ (first second : Job) (J K : List Entry) (p : ℕ) (are : AreSlots (slots_of first)) (legal : IsLegal (slots_of first) J)
+module _ (first second : ShownJob) (J K : List Entry) (p : ℕ) (are : AreSlots (slots_of first)) (legal : IsLegal (slots_of first) J)
     (are' : AreSlots (slots_of second)) (legal' : IsLegal (slots_of second) K)
     (same : slot_numbered first.slots p ≡ slot_numbered second.slots p) (told : answers p J ≡ answers p K)
     (over : is_live (own (slots_of first) J p).registers.state ≡ false) (over' : is_live (own (slots_of second) K p).registers.state ≡ false) where
@@ -57,7 +58,7 @@ module _ (first second : Job) (J K : List Entry) (p : ℕ) (are : AreSlots (slot
       (begins_alike first second p same) told over over'
 
   pub same_section : section_of p first (seen_of (slots_of first) J) ≡ section_of p second (seen_of (slots_of second) K)
-  same_section = ap₂ (λ (o : Option SlotJob) (s : State). option_map (λ (slot : SlotJob). section slot s) o) same seen_alike
+  same_section = ap₂ (λ (o : Option ShownSlot) (s : State). option_map (λ (slot : ShownSlot). section slot s) o) same seen_alike
 
 pub same_slots : (first second : List ℕ) (J K : List Entry) (p : ℕ) → job_fault first ≡ None → job_fault second ≡ None
     → slot_numbered (job first).slots p ≡ slot_numbered (job second).slots p
@@ -89,26 +90,26 @@ more_behind : (all lines behind : List (List ℕ)) → Around all lines → Arou
 more_behind all lines behind there =
     (there.0, there.1 ++ behind, ap (λ (xs : List (List ℕ)). xs ++ behind) there.2 ∙ simp append_assoc refl)
 
-section_first : (is : Bool) (s : SlotJob) (o : Option SlotJob) (p : ℕ) (states : ℕ → State) (later lines : List (List ℕ)) → nat_eq s.p p ≡ is
-    → (option_map (λ (slot : SlotJob). section slot (states p)) o ≡ Some lines → Around later lines)
-    → option_map (λ (slot : SlotJob). section slot (states p)) (cond is (Some s) o) ≡ Some lines → Around (section s (states s.p) ++ later) lines
+section_first : (is : Bool) (s : ShownSlot) (o : Option ShownSlot) (p : ℕ) (states : ℕ → State) (later lines : List (List ℕ)) → nat_eq s.p p ≡ is
+    → (option_map (λ (slot : ShownSlot). section slot (states p)) o ≡ Some lines → Around later lines)
+    → option_map (λ (slot : ShownSlot). section slot (states p)) (cond is (Some s) o) ≡ Some lines → Around (section s (states s.p) ++ later) lines
 section_first true s o p states later lines is behind e =
     let this : section s (states p) ≡ lines = cc in
     ([], later, ap (λ (xs : List (List ℕ)). xs ++ later) (ap (λ (n : ℕ). section s (states n)) (eqb-true s.p p is) ∙ this))
 section_first false s o p states later lines is behind e = more_before later lines (section s (states s.p)) (behind e)
 
-section_among : (slots : List SlotJob) (p : ℕ) (states : ℕ → State) (lines : List (List ℕ))
-    → option_map (λ (slot : SlotJob). section slot (states p)) (slot_numbered slots p) ≡ Some lines
-    → Around (flat_map (λ (slot : SlotJob). section slot (states slot.p)) slots) lines
+section_among : (slots : List ShownSlot) (p : ℕ) (states : ℕ → State) (lines : List (List ℕ))
+    → option_map (λ (slot : ShownSlot). section slot (states p)) (slot_numbered slots p) ≡ Some lines
+    → Around (flat_map (λ (slot : ShownSlot). section slot (states slot.p)) slots) lines
 section_among [] p states lines e = absurd cc
 section_among (s ∷ slots) p states lines e =
-    section_first (nat_eq s.p p) s (slot_numbered slots p) p states (flat_map (λ (slot : SlotJob). section slot (states slot.p)) slots) lines refl
+    section_first (nat_eq s.p p) s (slot_numbered slots p) p states (flat_map (λ (slot : ShownSlot). section slot (states slot.p)) slots) lines refl
     (section_among slots p states lines) e
 
-pub section_there : (job : Job) (J : List Entry) (states : ℕ → State) (p : ℕ) (lines : List (List ℕ)) → section_of p job states ≡ Some lines
+pub section_there : (job : ShownJob) (J : List Entry) (states : ℕ → State) (p : ℕ) (lines : List (List ℕ)) → section_of p job states ≡ Some lines
     → (front : List (List ℕ)) × (rest : List (List ℕ)) × (report_lines job J states ≡ front ++ lines ++ rest)
 unfolding report_lines
 section_there job J states p lines e =
-    more_behind ((head_line ∷ map entry_line J) ++ flat_map (λ (slot : SlotJob). section slot (states slot.p)) job.slots) lines (end_line ∷ [])
-    (more_before (flat_map (λ (slot : SlotJob). section slot (states slot.p)) job.slots) lines (head_line ∷ map entry_line J)
+    more_behind ((head_line ∷ map entry_line J) ++ flat_map (λ (slot : ShownSlot). section slot (states slot.p)) job.slots) lines (end_line ∷ [])
+    (more_before (flat_map (λ (slot : ShownSlot). section slot (states slot.p)) job.slots) lines (head_line ∷ map entry_line J)
     (section_among job.slots p states lines e))

@@ -3,20 +3,20 @@ use Rattle.std.specs.Prelude.{ℕ, Bool, true, false, List, [], ◌∷◌, None,
 use Rattle.kdf_journal.specs.declared.kind.Kind.{Kind}
 use Rattle.kdf_journal.specs.declared.kind.Kind.TheVariants.{Tr, Tp, Cr, Lp, Mt}
 use Rattle.kdf_tape.specs.Tape.{Recorded}
-use Rattle.kdf_transfer.specs.Devices.{Fixture, Progress, new_progress}
+use Rattle.kdf_transfer.specs.Devices.{Fixture, DeviceProgress, new_progress}
 use Rattle.kdf_processor.specs.State.{State, new_registers}
-use Rattle.kdf_job.specs.Job.{JobDevice, SlotJob}
+use Rattle.kdf_job.specs.Job.{JobDevice, ShownSlot}
 
 -- a device of a kind
 abbrev pub of_kind : Kind → Fixture
 of_kind kind = record { kind = kind; label = 0; codes = []; cards = [] }
 
 -- a device that has come so far
-abbrev pub come : ℕ → Bool → Progress
+abbrev pub come : ℕ → Bool → DeviceProgress
 come place flag = record new_progress { place = place; flag = flag }
 
 -- a punch or a printer with these finished blocks
-abbrev pub wrote : ℕ → List (List ℕ) → Progress
+abbrev pub wrote : ℕ → List (List ℕ) → DeviceProgress
 wrote place blocks = record new_progress { place = place; blocks = blocks }
 
 -- a tape of two blocks, the second with its mark, with the first of them passed
@@ -25,14 +25,14 @@ two_blocks =
     record { words = 0o4142434445464750 ∷ []; mark = false }
     ∷ record { words = 0o2021000000000002 ∷ 0o7500000000000077 ∷ []; mark = true } ∷ []
 
-abbrev pub on_tape : Progress
+abbrev pub on_tape : DeviceProgress
 on_tape = record new_progress { place = 1; mark = false; recorded = two_blocks }
 
 -- a slot with devices of these numbers, of which the words from the second to the third address are to be shown
 abbrev pub a_device : ℕ → JobDevice
 a_device d = record { d = d; fixture = of_kind Tr; progress = new_progress }
 
-abbrev pub a_slot : SlotJob
+abbrev pub a_slot : ShownSlot
 a_slot =
     record {
       p = 2;

@@ -2,17 +2,17 @@
 use Rattle.std.specs.Prelude.{ℕ, ◌==◌, List, find, map, Option}
 use Rattle.kdf_place.specs.Assembled.{image_words}
 use Rattle.kdf_transfer.specs.Slots.{Slot}
-use Rattle.kdf_job.specs.Job.{Job, SlotJob}
+use Rattle.kdf_job.specs.Job.{ShownJob, ShownSlot}
 use Rattle.kdf_theory.specs.Loading as loading
 
 -- the words of the images of these slots' decks
-abbrev pub images_of : List SlotJob → List (List ℕ)
-images_of slots = map (λ (s : SlotJob). image_words s.size s.deck) slots
+abbrev pub images_of : List ShownSlot → List (List ℕ)
+images_of slots = map (λ (s : ShownSlot). image_words s.size s.deck) slots
 
 -- each slot with the image of its deck
-abbrev pub slots_of : Job → List Slot
+abbrev pub slots_of : ShownJob → List Slot
 slots_of job = loading.slots_of job.slots (images_of job.slots)
 
 -- the slot of this number
-abbrev pub slot_numbered : List SlotJob → ℕ → Option SlotJob
-slot_numbered slots p = find (λ (s : SlotJob). s.p == p) slots
+abbrev pub slot_numbered : List ShownSlot → ℕ → Option ShownSlot
+slot_numbered slots p = find (λ (s : ShownSlot). s.p == p) slots

@@ -4,18 +4,18 @@ use Rattle.kdf_text.specs.Text.{text, octal}
 use Rattle.kdf_journal.specs.declared.entry.Entry.{Entry}
 use Rattle.kdf_journal.specs.declared.kind.Kind.{Kind}
 use Rattle.kdf_journal.specs.declared.kind.Kind.TheVariants.{Tp}
-use Rattle.kdf_transfer.specs.Devices.{Fixture, Progress}
+use Rattle.kdf_transfer.specs.Devices.{Fixture, DeviceProgress}
 use Rattle.kdf_processor.specs.declared.registers.Registers.{Registers}
 use Rattle.kdf_processor.specs.State.{State, device_at, own_fixture_at, word_at}
-use Rattle.kdf_job.specs.Job.{Job, SlotJob}
+use Rattle.kdf_job.specs.Job.{ShownJob, ShownSlot}
 use Rattle.kdf_report.specs.Text.{end_line, life_name}
 
 -- how many blocks a paper tape punch has finished; those of no other device are counted
-abbrev pub punched : Kind → Progress → ℕ
+abbrev pub punched : Kind → DeviceProgress → ℕ
 punched Tp x = length x.blocks
 punched _ x = 0
 
-abbrev pub punched_on : Option Fixture → Progress → ℕ
+abbrev pub punched_on : Option Fixture → DeviceProgress → ℕ
 punched_on None x = 0
 punched_on (Some f) x = punched f.kind x
 
@@ -44,11 +44,11 @@ abbrev pub program_line : ℕ → State → List ℕ
 program_line p s = slot_line p s.registers (blocks_at s (2 * p + 1)) (word_at s 12)
 
 -- the summary of a job that was made of n and has so many bytes, from its journal and the state of each program
-unfoldable pub summary_lines : ℕ → ℕ → Job → List Entry → (ℕ → State) → List (List ℕ)
+unfoldable pub summary_lines : ℕ → ℕ → ShownJob → List Entry → (ℕ → State) → List (List ℕ)
 summary_lines n bytes job J states =
     (make_line n ∷ job_line bytes ∷ entries_line J ∷ [])
-    ++ map (λ (slot : SlotJob). program_line slot.p (states slot.p)) job.slots
+    ++ map (λ (slot : ShownSlot). program_line slot.p (states slot.p)) job.slots
     ++ end_line ∷ []
 
-abbrev pub summary_text : ℕ → ℕ → Job → List Entry → (ℕ → State) → List ℕ
+abbrev pub summary_text : ℕ → ℕ → ShownJob → List Entry → (ℕ → State) → List ℕ
 summary_text n bytes job J states = text (summary_lines n bytes job J states)

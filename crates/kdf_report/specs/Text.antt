@@ -1,7 +1,7 @@
 -- The lines that are written of a program, of a journal and of a job, each without the byte that ends it.
 use Rattle.std.specs.Prelude.{ℕ, ◌+◌, ◌-◌, ◌/◌, ◌%◌, List, [], ◌∷◌, ◌++◌, map, length, ◌==◌, ◌&&◌, if◌then◌else◌, codes, decimal}
 use Rattle.std.specs.List.{flat_map, range_with_len}
-use Rattle.kdf_text.specs.Text.{text, octal, word_line as line_of_word}
+use Rattle.kdf_text.specs.Text.{text, octal, word_line}
 pub use Rattle.kdf_text.specs.Text.{end_line}
 use Rattle.kdf_qstore.specs.declared.triple.Triple.{Triple}
 use Rattle.kdf_qstore.specs.Triples.{triple_at}
@@ -13,7 +13,7 @@ use Rattle.kdf_processor.specs.declared.registers.Life.TheVariants as life
 use Rattle.kdf_processor.specs.declared.registers.Registers.{Registers}
 use Rattle.kdf_processor.specs.declared.spooled.Spooled.{Spooled}
 use Rattle.kdf_processor.specs.State.{State, lendings, word_at}
-use Rattle.kdf_job.specs.Job.{Job, SlotJob}
+use Rattle.kdf_job.specs.Job.{ShownJob, ShownSlot}
 use Rattle.kdf_report.specs.Devices.{bit, device_lines, device_numbers, host_text, stint_lines}
 
 -- each number after a space
@@ -62,19 +62,19 @@ registers_lines r =
     ∷ q_lines r.q
 
 -- the word at an address
-abbrev pub word_line : State → ℕ → List ℕ
-word_line s a = line_of_word a (word_at s a)
+abbrev pub word_line_at : State → ℕ → List ℕ
+word_line_at s a = word_line a (word_at s a)
 
 -- the words from the first to the last address
 abbrev pub show_lines : State → ℕ × ℕ → List (List ℕ)
-show_lines s show = map (word_line s) (range_with_len show.0 (show.1 + 1 - show.0))
+show_lines s show = map (word_line_at s) (range_with_len show.0 (show.1 + 1 - show.0))
 
 -- a text that was spooled, after its stream
 abbrev pub spool_line : Spooled → List ℕ
 spool_line x = codes "SPOOL " ++ decimal x.stream ++ codes " " ++ host_text x.text
 
 -- the section of a slot, from the state of its program
-unfoldable pub section : SlotJob → State → List (List ℕ)
+unfoldable pub section : ShownSlot → State → List (List ℕ)
 section slot s =
     (codes "SLOT " ++ decimal slot.p)
     ∷ registers_lines s.registers
@@ -88,7 +88,7 @@ abbrev pub alone_line : ℕ → List ℕ
 alone_line p = codes "KDF9 ALONE " ++ decimal p
 
 -- the text of a program that ran alone
-abbrev pub alone_text : SlotJob → State → List ℕ
+abbrev pub alone_text : ShownSlot → State → List ℕ
 alone_text slot s = text (alone_line slot.p ∷ section slot s ++ end_line ∷ [])
 
 -- the text of a slot that the job doesn't have
@@ -104,13 +104,13 @@ abbrev pub journal_lines : List Entry → List (List ℕ)
 journal_lines J = map entry_line J
 
 -- the lines of the sections of all slots of a job, each from the state of the program of its number
-abbrev pub sections_lines : Job → (ℕ → State) → List (List ℕ)
-sections_lines job states = flat_map (λ (slot : SlotJob). section slot (states slot.p)) job.slots
+abbrev pub sections_lines : ShownJob → (ℕ → State) → List (List ℕ)
+sections_lines job states = flat_map (λ (slot : ShownSlot). section slot (states slot.p)) job.slots
 
 -- the report of a job: its journal, and a section for each slot, from the state of the program of its number
-unfoldable pub report_lines : Job → List Entry → (ℕ → State) → List (List ℕ)
+unfoldable pub report_lines : ShownJob → List Entry → (ℕ → State) → List (List ℕ)
 report_lines job J states =
     (head_line ∷ journal_lines J) ++ sections_lines job states ++ end_line ∷ []
 
-abbrev pub report_text : Job → List Entry → (ℕ → State) → List ℕ
+abbrev pub report_text : ShownJob → List Entry → (ℕ → State) → List ℕ
 report_text job J states = text (report_lines job J states)

@@ -1,7 +1,7 @@
 //! The program of a slot in a machine.
 ghost use Rattle.std.specs.Prelude.{◌≡◌, ◌==◌, is_some, true};
 ghost use Rattle.std.specs.List.{list_any};
-ghost use Rattle.kdf_theory.specs.Shown.{state_at, state_of};
+ghost use Rattle.kdf_theory.specs.MachineView.{state_at, state_of};
 ghost use Rattle.kdf_job.specs.Shows.{shown_slot};
 ghost use Rattle.kdf_report.specs.Devices.{device_numbers};
 ghost use Rattle.kdf_report.specs.MadeFrom.{own_numbers};

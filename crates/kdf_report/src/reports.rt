@@ -1,7 +1,7 @@
 //! The report of a job.
 ghost use Rattle.std.specs.Prelude.{◌≡◌, [], ◌∷◌, All, IfOk, OnOk, map};
 ghost use Rattle.std.specs.List.{flat_map};
-ghost use Rattle.kdf_theory.specs.Shown.{state_at};
+ghost use Rattle.kdf_theory.specs.MachineView.{state_at};
 ghost use Rattle.kdf_job.specs.Shows.{shown_job, shown_slot};
 ghost use Rattle.kdf_text.specs.Text.{Adds, text};
 ghost use Rattle.kdf_report.specs.MadeFrom.{HasProgram};

@@ -2,7 +2,7 @@
 ghost use Rattle.std.specs.Prelude.{◌<◌, [], ◌∷◌, All, OnOk};
 ghost use Rattle.std.specs.List.{flat_map};
 ghost use Rattle.kdf_text.specs.Text.{Adds};
-ghost use Rattle.kdf_report.specs.Text.{show_lines, word_line};
+ghost use Rattle.kdf_report.specs.Text.{show_lines, word_line_at};
 
 use crate::Program;
 use kdf_text::write_word;
@@ -44,7 +44,7 @@ fn write_show<P: Program>(
 /// The word at an address.
 fn show_word<P: Program>(out: &mut String, address: u16, program: &P) -> Result<(), AllocError>
     requires { address < (P.state program.now).stock.claims.size }
-    ensures { OnOk result (Adds out.old out.new (word_line (P.state program.now) address ∷ [])) }
+    ensures { OnOk result (Adds out.old out.new (word_line_at (P.state program.now) address ∷ [])) }
 {
     write_word(out, usize::from(address), program.word(address).bits())
 }

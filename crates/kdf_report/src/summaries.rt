@@ -1,6 +1,6 @@
 //! The summary of a made job.
 ghost use Rattle.std.specs.Prelude.{◌≡◌, ◌<◌, [], ◌∷◌, All, IfOk, OnOk, map};
-ghost use Rattle.kdf_theory.specs.Shown.{state_at};
+ghost use Rattle.kdf_theory.specs.MachineView.{state_at};
 ghost use Rattle.kdf_job.specs.Shows.{shown_job, shown_slot};
 ghost use Rattle.kdf_job.specs.WellFormed.{IsSlot};
 ghost use Rattle.kdf_processor.specs.State.{device_limit};

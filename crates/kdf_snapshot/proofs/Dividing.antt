@@ -12,7 +12,7 @@ use Rattle.kdf_snapshot.specs.declared.fault.SnapshotFault.{SnapshotFault}
 use Rattle.kdf_snapshot.specs.declared.fault.SnapshotFault.TheVariants.{NoJournal, NoEnd}
 use Rattle.kdf_snapshot.specs.declared.fault.SplitError.{SplitError}
 use Rattle.kdf_snapshot.specs.declared.fault.SplitError.TheVariants.{Fault, Memory}
-use Rattle.kdf_snapshot.specs.declared.parts.Parts.{Parts as SplitParts}
+use Rattle.kdf_snapshot.specs.declared.parts.Parts.{Parts}
 use Rattle.kdf_snapshot.specs.Parts.{IsInside, Says}
 use Rattle.kdf_snapshot.specs.Passed.{Passed, PassedAll, PassedEnd}
 use Rattle.kdf_snapshot.specs.Snapshot.{end_after, end_line, entries_from, journal_line, offset, parts_after, parts_of, parts_to}
@@ -132,7 +132,7 @@ pub says-on : (e : SplitError) (first : ℕ) (bytes : List ℕ) (b : Cursor) →
 says-on (Fault fault line) first bytes b h s = after-head first bytes b (Err (fault, line)) h s
 says-on Memory first bytes b h s = tt
 
-pub inside : (first : ℕ) (bytes : List ℕ) (p : SplitParts) (at : Cursor) → Ended first bytes p.entries.items p.seal_from p.seal_to at
+pub inside : (first : ℕ) (bytes : List ℕ) (p : Parts) (at : Cursor) → Ended first bytes p.entries.items p.seal_from p.seal_to at
     → p.more_from ≡ min at.offset (length bytes) → p.more_line ≡ at.lines.number → IsInside first (length bytes) p
 inside first bytes p at e more line =
     let n = length p.entries.items + 2 in

@@ -12,7 +12,7 @@ use Rattle.kdf_schedule.specs.Events.{IsInRange}
 use Rattle.kdf_job.specs.WellFormed as job
 use Rattle.kdf_theory.specs.Follows.{IsRising, entries_in}
 use Rattle.kdf_theory.specs.Served.{IsJournalFor}
-use Rattle.kdf_theory.specs.Shown.{Shown}
+use Rattle.kdf_theory.specs.MachineView.{MachineView}
 use Rattle.kdf_snapshot.specs.Rebuilt.{DiffersFrom, IsRefused}
 use Rattle.kdf_snapshot.specs.declared.rebuilt.RebuildError.{RebuildError}
 use Rattle.kdf_snapshot.specs.declared.rebuilt.RebuildError.TheVariants.{Differs, Memory}
@@ -61,14 +61,14 @@ in-range (suc i) (e ∷ es) each = all-cons e (take i es) (each 0 e (omega arith
     all-cons e fs first others (suc k) d lt = others k d (omega arith)
 
 -- a machine that is given back as it was has its room
-pub kept : {E : Type 0} (r : Result Shown E) (m : Shown) (n : ℕ) → IfOk r (λ x. x ≡ m) → n ≤ m.room → IfOk r (λ x. n ≤ x.room)
-kept (Ok x) m n is le = subst (λ (y : Shown). n ≤ y.room) (sym is) le
+pub kept : {E : Type 0} (r : Result MachineView E) (m : MachineView) (n : ℕ) → IfOk r (λ x. x ≡ m) → n ≤ m.room → IfOk r (λ x. n ≤ x.room)
+kept (Ok x) m n is le = subst (λ (y : MachineView). n ≤ y.room) (sym is) le
 kept (Err e) m n is le = tt
 
 -- and the journal that it had
-pub kept-journal : {E : Type 0} (r : Result Shown E) (m : Shown) (J : List Entry) → IfOk r (λ x. x ≡ m) → IfOk r (λ _. m.journal ≡ J)
+pub kept-journal : {E : Type 0} (r : Result MachineView E) (m : MachineView) (J : List Entry) → IfOk r (λ x. x ≡ m) → IfOk r (λ _. m.journal ≡ J)
     → IfOk r (λ x. x.journal ≡ J)
-kept-journal (Ok x) m J is e = ap (λ (y : Shown). y.journal) is ∙ e
+kept-journal (Ok x) m J is e = ap (λ (y : MachineView). y.journal) is ∙ e
 kept-journal (Err e) m J is le = tt
 
 -- entries that differ from the journal of a run are refused

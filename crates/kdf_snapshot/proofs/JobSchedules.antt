@@ -12,10 +12,11 @@ use Rattle.kdf_schedule.specs.declared.event.EventFault.{EventFault}
 use Rattle.kdf_schedule.specs.declared.event.EventFault.TheVariants as event_fault
 use Rattle.kdf_schedule.specs.Events.{IsInRange, clock, end, event, moving, of_number, of_numbers, of_one, of_two, of_words, orders, swap}
 use Rattle.kdf_job.specs.declared.fault.JobFault.{JobFault}
-use Rattle.kdf_job.specs.declared.place.Place.{Place}
-use Rattle.kdf_job.specs.declared.place.Place.TheVariants.{First, BehindHeader, BehindSlot, BehindStore, InDeck, BehindDeck, BehindService, BehindDevice}
-use Rattle.kdf_job.specs.declared.place.Place.TheVariants.{BehindShow, BehindPool, InSchedule, BehindEnd}
-use Rattle.kdf_job.specs.Draft.{Draft, blank, fault_of, with_line}
+use Rattle.kdf_job.specs.declared.line_place.LinePlace.{LinePlace}
+use Rattle.kdf_job.specs.declared.line_place.LinePlace.TheVariants.{First, BehindHeader, BehindSlot, BehindStore, InDeck, BehindDeck, BehindService}
+use Rattle.kdf_job.specs.declared.line_place.LinePlace.TheVariants.{BehindDevice}
+use Rattle.kdf_job.specs.declared.line_place.LinePlace.TheVariants.{BehindShow, BehindPool, InSchedule, BehindEnd}
+use Rattle.kdf_job.specs.Draft.{ShownDraft, blank, fault_of, with_line}
 use Rattle.kdf_job.specs.Forms.{Form, AHeader, ASlot, AStore, ADeck, ADeckLine, AnEndDeck, ADevice, AMedium, AService, AShow, APool, ASchedule, AnEvent}
 use Rattle.kdf_job.specs.Forms.{AnEndJob, Told, addresses, alone, described, device_line, device_named, device_or_end, device_words, event_line, first_told}
 use Rattle.kdf_job.specs.Forms.{medium_line, no_medium, number_line, numbered, kind_named, of_event, or_bad, pool_device_or_end, pooled, service_or_device}
@@ -187,7 +188,7 @@ if_end : (is : Bool) (line : List ℕ) (form : Form) → ◌≡◌ {A = Result F
 if_end true line form e = let is : AnEndDeck ≡ form = cc in subst IsTold is tt
 if_end false line form e = let is : ADeckLine line ≡ form = cc in subst IsTold is tt
 
-told_form : (place : Place) (line : List ℕ) (form : Form) → told_at place line ≡ Ok form → IsTold form
+told_form : (place : LinePlace) (line : List ℕ) (form : Form) → told_at place line ≡ Ok form → IsTold form
 told_form First line form e = if_header (is_text (codes "KDF9 JOB 1") line) _ form e
 told_form BehindHeader line form e = first_fits (slot_line line ∷ []) form (slot_fits line, tt) e
 told_form (BehindSlot p) line form e = first_fits (store_line line ∷ []) form (store_fits line, tt) e
@@ -207,33 +208,33 @@ told_form BehindEnd line form e = absurd cc
 
 -- ---- line by line
 
-with_form : (form : Form) (d : Draft) → IsSchedule d.events → IsTold form → fault_of form d ≡ None → IsSchedule (with_line form d).events
+with_form : (form : Form) (d : ShownDraft) → IsSchedule d.events → IsTold form → fault_of form d ≡ None → IsSchedule (with_line form d).events
 with_form (AnEvent what) d was range free = schedule_push d.events what was range free
 with_form form d was range free = was
 
-with_fault : (form : Form) (d e : Draft) (o : Option JobFault) → fault_of form d ≡ o → IsSchedule d.events → IsTold form → or_fault form d o ≡ Ok e
+with_fault : (form : Form) (d e : ShownDraft) (o : Option JobFault) → fault_of form d ≡ o → IsSchedule d.events → IsTold form → or_fault form d o ≡ Ok e
     → IsSchedule e.events
 with_fault form d e None free was told_so is =
     let same : with_line form d ≡ e = cc in
-    subst (λ (x : Draft). IsSchedule x.events) same (with_form form d was told_so free)
+    subst (λ (x : ShownDraft). IsSchedule x.events) same (with_form form d was told_so free)
 with_fault form d e (Some fault) free was told_so is = absurd cc
 
-with_told_form : (d e : Draft) (line : List ℕ) (r : Result Form JobFault) → told_at d.place line ≡ r → IsSchedule d.events → with_told d r ≡ Ok e
+with_told_form : (d e : ShownDraft) (line : List ℕ) (r : Result Form JobFault) → told_at d.place line ≡ r → IsSchedule d.events → with_told d r ≡ Ok e
     → IsSchedule e.events
 with_told_form d e line (Err fault) tells was is = absurd cc
 with_told_form d e line (Ok form) tells was is = with_fault form d e (fault_of form d) refl was (told_form d.place line form tells) is
 
-line_read : (d e : Draft) (line : List ℕ) → IsSchedule d.events → read_line d line ≡ Ok e → IsSchedule e.events
+line_read : (d e : ShownDraft) (line : List ℕ) → IsSchedule d.events → read_line d line ≡ Ok e → IsSchedule e.events
 unfolding read_line
 line_read d e line was is = with_told_form d e line (told_at d.place line) refl was is
 
-behind : (n : ℕ) (d : Draft) (rest : List (List ℕ)) (r : Result Draft JobFault)
-    → ((e : Draft) → r ≡ Ok e → fault_from (n + 1) e rest ≡ None → IsSchedule (draft_of e rest).events)
+behind : (n : ℕ) (d : ShownDraft) (rest : List (List ℕ)) (r : Result ShownDraft JobFault)
+    → ((e : ShownDraft) → r ≡ Ok e → fault_from (n + 1) e rest ≡ None → IsSchedule (draft_of e rest).events)
     → behind_line n r (λ e. fault_from (n + 1) e rest) ≡ None → IsSchedule (draft_of (or_same d r) rest).events
 behind n d rest (Err fault) then free = absurd cc
 behind n d rest (Ok e) then free = then e refl free
 
-lines_read : (n : ℕ) (d : Draft) (ls : List (List ℕ)) → IsSchedule d.events → fault_from n d ls ≡ None → IsSchedule (draft_of d ls).events
+lines_read : (n : ℕ) (d : ShownDraft) (ls : List (List ℕ)) → IsSchedule d.events → fault_from n d ls ≡ None → IsSchedule (draft_of d ls).events
 lines_read n d [] was free = was
 lines_read n d (line ∷ rest) was free =
     behind n d rest (read_line d line) (λ e is clear. lines_read (n + 1) e rest (line_read d e line was is) clear) free

@@ -2,11 +2,12 @@
 use Rattle.std.proofs.Common.{ℕ, ◌+◌, ◌*◌, ◌<◌, ◌≤◌, ◌^◌, Bool, true, false, cond, eqb, List, [], ◌∷◌, length, ap, arith, length-append}
 use Rattle.std.proofs.lemmas.List.{length-replicate}
 use Rattle.kdf_journal.specs.declared.entry.Entry.{Entry}
-use Rattle.kdf_journal.specs.declared.entry.Entry.TheVariants.{Ran, Start, Answer, Take, Give, Fail, Ended, Lov, Busy, Wait, Idle, Move as MoveEntry}
-use Rattle.kdf_journal.specs.declared.entry.Entry.TheVariants.{End as EndEntry, Clock as ClockEntry, Swap as SwapEntry}
+use Rattle.kdf_journal.specs.declared.entry.Entry.TheVariants.{Ran, Start, Answer, Take, Give, Fail, Ended, Lov, Busy, Wait, Idle}
+use Rattle.kdf_journal.specs.declared.entry.Entry.TheVariants as entry
 use Rattle.kdf_journal.specs.Counts.{ByGroup, ByDevice, ByPool}
 use Rattle.kdf_journal.specs.Joined.{joined, pushed}
-use Rattle.kdf_journal.specs.Steps.{Note, Quiet, Began, Answered, Took, Gave, Failed, Finished, Step, Obeys, Holds, Waits, Moves, Ends, Sets, Swaps, added}
+use Rattle.kdf_journal.specs.Steps.{Note, Quiet, Began, Answered, Took, Gave, Failed, Finished, JournalStep, Obeys, Holds, Waits, Moves, Ends, Sets, Swaps}
+use Rattle.kdf_journal.specs.Steps.{added}
 use Rattle.kdf_journal.specs.Steps.{journal_of, noted, steps}
 use Rattle.kdf_schedule.specs.declared.event.Event.{Event}
 use Rattle.kdf_schedule.specs.declared.event.Event.TheVariants.{Orders, Move, End, Clock, Swap}
@@ -41,18 +42,18 @@ noted_length J p (Gave d) = pushed_length J (Give p d)
 noted_length J p (Failed kind) = pushed_length J (Fail p kind)
 noted_length J p Finished = pushed_length J (Ended p)
 
-added_length : (J : List Entry) (s : Step) → length (added J s) ≤ length J + 2
+added_length : (J : List Entry) (s : JournalStep) → length (added J s) ≤ length J + 2
 added_length J (Obeys p note) = omega (arith, noted_length (pushed J (Ran p 1)) p note, pushed_length J (Ran p 1))
 added_length J (Holds p (ByGroup group)) = omega (arith, pushed_length J (Lov p group))
 added_length J (Holds p (ByDevice d)) = omega (arith, pushed_length J (Busy p d))
 added_length J (Holds p (ByPool kind)) = omega (arith, pushed_length J (Wait p kind))
 added_length J Waits = omega (arith, pushed_length J (Idle 1))
-added_length J (Moves d n) = omega (arith, pushed_length J (MoveEntry d n))
-added_length J (Ends d) = omega (arith, pushed_length J (EndEntry d))
-added_length J (Sets t) = omega (arith, pushed_length J (ClockEntry t))
-added_length J (Swaps p q) = omega (arith, pushed_length J (SwapEntry p q))
+added_length J (Moves d n) = omega (arith, pushed_length J (entry.Move d n))
+added_length J (Ends d) = omega (arith, pushed_length J (entry.End d))
+added_length J (Sets t) = omega (arith, pushed_length J (entry.Clock t))
+added_length J (Swaps p q) = omega (arith, pushed_length J (entry.Swap p q))
 
-journal_length : (P : List Step) → length (journal_of P) ≤ 2 * length P
+journal_length : (P : List JournalStep) → length (journal_of P) ≤ 2 * length P
 journal_length [] = omega arith
 journal_length (s ∷ P) = omega (arith, added_length (journal_of P) s, journal_length P)
 

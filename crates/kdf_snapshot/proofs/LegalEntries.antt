@@ -9,9 +9,11 @@ use Rattle.std.proofs.lemmas.List.Sums.{sum_by-cons}
 use Rattle.kdf_journal.specs.declared.kind.Kind.{Kind}
 use Rattle.kdf_journal.specs.declared.entry.Entry.{Entry}
 use Rattle.kdf_journal.specs.declared.entry.Entry.TheVariants.{Ran}
-use Rattle.kdf_journal.specs.Counts.{ByGroup, ByDevice, ByPool, answers as answers_of, calls, calls_in, last_hold, ran, ran_in}
+use Rattle.kdf_journal.specs.Counts.{ByGroup, ByDevice, ByPool, calls, calls_in, last_hold, ran, ran_in}
+use Rattle.kdf_journal.specs.Counts as counts
 use Rattle.kdf_journal.specs.Printed.{IsEntry}
-use Rattle.kdf_journal.specs.Steps.{Note, Quiet, Began, Answered, Took, Gave, Failed, Finished, Step, Obeys, Holds, Waits, Moves, Ends, Sets, Swaps, added}
+use Rattle.kdf_journal.specs.Steps.{Note, Quiet, Began, Answered, Took, Gave, Failed, Finished, JournalStep, Obeys, Holds, Waits, Moves, Ends, Sets, Swaps}
+use Rattle.kdf_journal.specs.Steps.{added}
 use Rattle.kdf_journal.specs.Steps.{journal_of, steps}
 use Rattle.kdf_journal.proofs.Added.{calls-added, last_hold-added}
 use Rattle.kdf_schedule.specs.declared.event.Event.{Event}
@@ -113,7 +115,7 @@ none_ran (Some s) = refl
 
 own_ran : (slots : List Slot) (J : List Entry) (p : ℕ) → (own slots J p).registers.ran ≤ calls J
 unfolding own
-own_ran slots J p = omega (arith, (counts_lone (start slots p) (answers_of p J) (ran p J)).0, none_ran (slot_of slots p), ran_calls p J)
+own_ran slots J p = omega (arith, (counts_lone (start slots p) (counts.answers p J) (ran p J)).0, none_ran (slot_of slots p), ran_calls p J)
 
 few_devices : device_count ≤ 16
 unfolding device_count
@@ -209,7 +211,7 @@ module _ (answers : ℕ → ℕ → Type 0) (are_words : (n a : ℕ) → n < 2 ^
       (legal-near slots (added J (Holds p (ByGroup g))) legal p) in
       omega (arith, small p)
 
-  step_small : (J : List Entry) (s : Step) → IsLegal slots (added J s) → AreSmall J → calls J + 1 < 2 ^ 32
+  step_small : (J : List Entry) (s : JournalStep) → IsLegal slots (added J s) → AreSmall J → calls J + 1 < 2 ^ 32
       → course.Meets (lone_dispatched slots J) (any_answer slots J) J s → course.Noted (is_true_for answers slots J) s → FitsCall (call_of s) → IsSmallStep s
   step_small J (Obeys p note) legal was count met told fits =
       let one = few p (next_slot (lone_world slots J) slots J p met.0) in
@@ -229,7 +231,7 @@ module _ (answers : ℕ → ℕ → Type 0) (are_words : (n a : ℕ) → n < 2 ^
   step_small J (Sets t) legal was count met told fits = fits
   step_small J (Swaps p q) legal was count met told fits = fits
 
-  journal_small : (P : List Step) → EachMeets slots P → course.EachNoted (is_true_for answers slots) P → FitCalls (answered P)
+  journal_small : (P : List JournalStep) → EachMeets slots P → course.EachNoted (is_true_for answers slots) P → FitCalls (answered P)
       → calls (journal_of P) + 1 < 2 ^ 32 → AreSmall (journal_of P)
   journal_small [] each told fit count = tt
   journal_small (s ∷ P) each told fit count =

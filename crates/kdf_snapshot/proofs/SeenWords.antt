@@ -4,8 +4,8 @@ use Rattle.std.specs.Prelude.{unwrap_or}
 use Rattle.std.specs.List.{flat_map}
 use Rattle.kdf_transfer.specs.Slots.{Slot}
 use Rattle.kdf_processor.specs.State.{State}
-use Rattle.kdf_job.specs.Job.{SlotJob}
-use Rattle.kdf_theory.specs.Shown.{Shown, ShowsSeen, state_at, state_in, state_of}
+use Rattle.kdf_job.specs.Job.{ShownSlot}
+use Rattle.kdf_theory.specs.MachineView.{MachineView, ShowsSeen, state_at, state_in, state_of}
 use Rattle.kdf_theory.specs.Slots.{slot_of, start_of}
 use Rattle.kdf_theory.specs.ByJournal.{seen_of}
 use Rattle.kdf_director.proofs.Linking.OrdersEntered.{state_there}
@@ -22,14 +22,14 @@ its_slot (slot ∷ slots) (state ∷ states) p P there = go (eqb slot.p p) (its_
     go true later there = refl
     go false later there = later there
 
-seen_at : (m : Shown) (p : ℕ) (P : State → Type 0) → ShowsSeen m → IsSomeAnd (state_of m p) P → state_at m p ≡ seen_of m.slots m.journal p
+seen_at : (m : MachineView) (p : ℕ) (P : State → Type 0) → ShowsSeen m → IsSomeAnd (state_of m p) P → state_at m p ≡ seen_of m.slots m.journal p
 seen_at m p P shows there =
     ap (λ o. unwrap_or o (start_of None))
     (ap (λ states. state_in m.slots states p) shows ∙ state_there (seen_of m.slots m.journal) p m.slots (its_slot m.slots m.states p P there))
 
-pub words_seen : (m : Shown) → ShowsSeen m → (slots : List SlotJob) → All (HasStore m) slots
-    → flat_map (λ (slot : SlotJob). slot_lines slot (state_at m slot.p)) slots
-    ≡ flat_map (λ (slot : SlotJob). slot_lines slot (seen_of m.slots m.journal slot.p)) slots
+pub words_seen : (m : MachineView) → ShowsSeen m → (slots : List ShownSlot) → All (HasStore m) slots
+    → flat_map (λ (slot : ShownSlot). slot_lines slot (state_at m slot.p)) slots
+    ≡ flat_map (λ (slot : ShownSlot). slot_lines slot (seen_of m.slots m.journal slot.p)) slots
 words_seen m shows [] has = refl
 words_seen m shows (slot ∷ slots) has =
     let first : slot_lines slot (state_at m slot.p) ≡ slot_lines slot (seen_of m.slots m.journal slot.p) =

@@ -8,7 +8,8 @@ use Rattle.kdf_journal.specs.declared.entry.Entry.TheVariants.{Ran, Start, Answe
 use Rattle.kdf_journal.specs.Counts.{Hold, ByGroup, ByDevice, ByPool, calls, calls_in, clock, clock_after, pending, pending_after}
 use Rattle.kdf_journal.specs.Joined.{joined, pushed}
 use Rattle.kdf_journal.specs.Printed.{IsEntry}
-use Rattle.kdf_journal.specs.Steps.{Note, Quiet, Began, Answered, Took, Gave, Failed, Finished, Step, Obeys, Holds, Waits, Moves, Ends, Sets, Swaps, added}
+use Rattle.kdf_journal.specs.Steps.{Note, Quiet, Began, Answered, Took, Gave, Failed, Finished, JournalStep, Obeys, Holds, Waits, Moves, Ends, Sets, Swaps}
+use Rattle.kdf_journal.specs.Steps.{added}
 use Rattle.kdf_journal.specs.Steps.{noted}
 
 -- the numbers of an entry are those of its type, but for what it counts
@@ -33,7 +34,7 @@ IsSmallHold (ByGroup group) = group < 2 ^ 16
 IsSmallHold (ByDevice d) = d < 2 ^ 8
 IsSmallHold (ByPool kind) = Unit {0}
 
-abbrev pub IsSmallStep : Step → Type 0
+abbrev pub IsSmallStep : JournalStep → Type 0
 IsSmallStep (Obeys p note) = (p < 2 ^ 8) × IsSmallNote note
 IsSmallStep (Holds p by) = (p < 2 ^ 8) × IsSmallHold by
 IsSmallStep Waits = Unit {0}
@@ -67,7 +68,7 @@ noted_small J p (Gave d) was few small = pushed_small J (Give p d) was (few, sma
 noted_small J p (Failed kind) was few small = pushed_small J (Fail p kind) was few
 noted_small J p Finished was few small = pushed_small J (Ended p) was few
 
-pub added_small : (J : List Entry) (s : Step) → AreSmall J → IsSmallStep s → AreSmall (added J s)
+pub added_small : (J : List Entry) (s : JournalStep) → AreSmall J → IsSmallStep s → AreSmall (added J s)
 added_small J (Obeys p note) was small = noted_small (pushed J (Ran p 1)) p note (pushed_small J (Ran p 1) was small.0) small.0 small.1
 added_small J (Holds p (ByGroup group)) was small = pushed_small J (Lov p group) was (small.0, small.1)
 added_small J (Holds p (ByDevice d)) was small = pushed_small J (Busy p d) was (small.0, small.1)

@@ -12,9 +12,9 @@ number_of JournalDiffers = 4
 number_of SealDiffers = 5
 
 -- as it is printed
-abbrev pub name_of : SnapshotFault → List ℕ
-name_of NoJournal = codes "NoJournal"
-name_of BadEntry = codes "BadEntry"
-name_of NoEnd = codes "NoEnd"
-name_of JournalDiffers = codes "JournalDiffers"
-name_of SealDiffers = codes "SealDiffers"
+abbrev pub snapshot_fault_name : SnapshotFault → List ℕ
+snapshot_fault_name NoJournal = codes "NoJournal"
+snapshot_fault_name BadEntry = codes "BadEntry"
+snapshot_fault_name NoEnd = codes "NoEnd"
+snapshot_fault_name JournalDiffers = codes "JournalDiffers"
+snapshot_fault_name SealDiffers = codes "SealDiffers"

@@ -3,10 +3,10 @@ use Rattle.std.specs.Prelude.{◌≡◌, ℕ, ◌+◌, ◌≤◌, Result, Err, l
 use Rattle.kdf_snapshot.specs.declared.fault.SnapshotFault.{SnapshotFault}
 use Rattle.kdf_snapshot.specs.declared.fault.SplitError.{SplitError}
 use Rattle.kdf_snapshot.specs.declared.fault.SplitError.TheVariants.{Fault, Memory}
-use Rattle.kdf_snapshot.specs.declared.parts.Parts.{Parts as SplitParts}
-use Rattle.kdf_snapshot.specs.Snapshot.{Parts}
+use Rattle.kdf_snapshot.specs.declared.parts.Parts.{Parts}
+use Rattle.kdf_snapshot.specs.Snapshot.{ShownParts}
 
-abbrev pub shown_parts : SplitParts → Parts
+abbrev pub shown_parts : Parts → ShownParts
 shown_parts p =
     record {
       entries = p.entries.items;
@@ -22,7 +22,7 @@ Says (Fault fault line) found = found ≡ Err (fault, line)
 Says Memory found = Unit {0}
 
 -- the offsets don't fall and are within so many bytes, and the parts have no more lines than bytes
-pub record IsInside (first size : ℕ) (p : SplitParts) : Type 0 where
+pub record IsInside (first size : ℕ) (p : Parts) : Type 0 where
   pub seal : p.seal_from ≤ p.seal_to
   pub more : p.seal_to ≤ p.more_from
   pub end : p.more_from ≤ size

@@ -36,7 +36,7 @@ abbrev pub offset : List ℕ → ℕ → ℕ
 offset bytes k = min (length (text (take k (lines bytes)))) (length bytes)
 
 -- the entries, the offsets of what is sealed and of the line after ENDSNAPSHOT, and the number of that line
-pub record Parts : Type 0 where
+pub record ShownParts : Type 0 where
   pub entries : List Entry
   pub seal_from : ℕ
   pub seal_to : ℕ
@@ -44,7 +44,7 @@ pub record Parts : Type 0 where
   pub more_line : ℕ
 
 -- by the entries, and how many lines stand before ENDSNAPSHOT
-abbrev pub parts_to : ℕ → List ℕ → List Entry → Option ℕ → Result Parts (SnapshotFault × ℕ)
+abbrev pub parts_to : ℕ → List ℕ → List Entry → Option ℕ → Result ShownParts (SnapshotFault × ℕ)
 parts_to first bytes entries None = Err (NoEnd, first + length (lines bytes))
 parts_to first bytes entries (Some k) =
     Ok (record {
@@ -59,13 +59,13 @@ parts_to first bytes entries (Some k) =
 abbrev pub end_after : ℕ → List (List ℕ) → Option ℕ
 end_after k ls = position_from (is_text end_line) k (drop k ls)
 
-abbrev pub parts_after : ℕ → List ℕ → Result (List Entry) (SnapshotFault × ℕ) → Result Parts (SnapshotFault × ℕ)
+abbrev pub parts_after : ℕ → List ℕ → Result (List Entry) (SnapshotFault × ℕ) → Result ShownParts (SnapshotFault × ℕ)
 parts_after first bytes (Err found) = Err found
 parts_after first bytes (Ok entries) =
     parts_to first bytes entries (end_after (length entries + 2) (lines bytes))
 
 -- the parts of the bytes after a job, whose first line has this number; or the first fault of their lines, and the number of its line
-unfoldable pub parts_of : ℕ → List ℕ → Result Parts (SnapshotFault × ℕ)
+unfoldable pub parts_of : ℕ → List ℕ → Result ShownParts (SnapshotFault × ℕ)
 parts_of first bytes =
     if is_text journal_line (line (lines bytes) 1)
     then parts_after first bytes (entries_from (first + 1) (drop 1 (lines bytes)))

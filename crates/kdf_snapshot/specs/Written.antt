@@ -6,7 +6,7 @@ use Rattle.kdf_text.specs.Text.{text}
 use Rattle.kdf_text.specs.declared.lines.TheConstants.{LINE_END}
 use Rattle.kdf_journal.specs.declared.entry.Entry.{Entry}
 use Rattle.kdf_journal.specs.Printed.{entry_line}
-use Rattle.kdf_snapshot.specs.Snapshot.{Parts, end_line, journal_line, seal_line}
+use Rattle.kdf_snapshot.specs.Snapshot.{ShownParts, end_line, journal_line, seal_line}
 
 -- the lines of a journal, with JOURNAL before them and SEAL after them
 abbrev pub journal_text : List Entry → List ℕ
@@ -22,7 +22,7 @@ pub record CanBeSealed (line : List ℕ) : Type 0 where
   pub other : is_text end_line line ≡ false
 
 -- the parts of these entries and these sealed lines, where JOURNAL is the line of this number
-abbrev pub parts_written : ℕ → List Entry → List (List ℕ) → Parts
+abbrev pub parts_written : ℕ → List Entry → List (List ℕ) → ShownParts
 parts_written first J ls =
     record {
       entries = J;

@@ -1,6 +1,6 @@
 //! What can be wrong with a snapshot.
 ghost use Rattle.std.specs.Prelude.{◌≡◌};
-ghost use Rattle.kdf_snapshot.specs.Faults.{name_of};
+ghost use Rattle.kdf_snapshot.specs.Faults.{snapshot_fault_name};
 ghost use Rattle.kdf_snapshot.specs.declared.fault.SplitError.TheVariants.{Memory};
 
 use kdf_fault::Numbered;
@@ -24,7 +24,7 @@ pub enum SnapshotFault {
 impl SnapshotFault {
     /// The name of the fault, as it is printed.
     pub fn name(&self) -> &'static str
-        ensures { result.now ≡ name_of self.now }
+        ensures { result.now ≡ snapshot_fault_name self.now }
     {
         match self {
             SnapshotFault::NoJournal => "NoJournal",

@@ -4,14 +4,14 @@ ghost use Rattle.kdf_text.specs.Lines.{lines};
 ghost use Rattle.kdf_text.specs.Text.{text};
 ghost use Rattle.kdf_journal.specs.declared.entry.Entry.{Entry};
 ghost use Rattle.kdf_journal.specs.Printed.{IsEntry};
-ghost use Rattle.kdf_journal.specs.Steps.{Step, steps};
+ghost use Rattle.kdf_journal.specs.Steps.{JournalStep, steps};
 ghost use Rattle.kdf_transfer.specs.Slots.{Slot};
 ghost use Rattle.kdf_schedule.specs.declared.event.Event.{Event};
 ghost use Rattle.kdf_service.specs.Rules.{IsService};
-ghost use Rattle.kdf_job.specs.Job.{Job};
+ghost use Rattle.kdf_job.specs.Job.{ShownJob};
 ghost use Rattle.kdf_job.specs.Limits.{most_words};
 ghost use Rattle.kdf_job.specs.WellFormed.{IsSchedule};
-ghost use Rattle.kdf_theory.specs.Shown.{Shown, ShowsSeen, state_at};
+ghost use Rattle.kdf_theory.specs.MachineView.{MachineView, ShowsSeen, state_at};
 ghost use Rattle.kdf_theory.specs.ByJournal.{seen_of};
 ghost use Rattle.kdf_theory.specs.Served.{IsJournalFor};
 ghost use Rattle.kdf_theory.specs.Slots.{AreSlots};
@@ -33,18 +33,18 @@ pub fn offsets()
 /// The words that a snapshot has of a machine, in which each program's own state is what is seen of its lone run, are those that its
 /// journal tells to be seen of each program.
 pub fn words_of_seen()
-    ensures { (m : Shown) (job : Job) → ShowsSeen m → All (HasStore m) job.slots →
+    ensures { (m : MachineView) (job : ShownJob) → ShowsSeen m → All (HasStore m) job.slots →
         store_lines job (state_at m) ≡ store_lines job (seen_of m.slots m.journal) }
 {}
 
 /// Read singly, the journal of a front job is the beginning of that of the joined job: with one service, whose rule is `rule`, and the
 /// same images of the decks. So a run that goes on where its front was saved comes to what it would have come to.
 pub fn resumed<F: Fn(u64) -> u64>()
-    ensures { (rule : F) → IsService (F.pre rule) (F.post rule) → (front : Job)
+    ensures { (rule : F) → IsService (F.pre rule) (F.post rule) → (front : ShownJob)
         (further : List Event) (images : List (List ℕ)) (J K : List Entry) →
         IsJournalOf (F.post rule) front images J →
         IsJournalOf (F.post rule) (joined front further) images K →
-        (Q : List Step) × (steps K ≡ Q ++ steps J) }
+        (Q : List JournalStep) × (steps K ≡ Q ++ steps J) }
 {}
 
 /// What is written after the job of a snapshot is split again: into the entries of its journal, where their numbers fit their types, into

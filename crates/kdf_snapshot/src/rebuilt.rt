@@ -1,14 +1,14 @@
 //! A run that is made again, up to where it was saved.
 ghost use Rattle.std.specs.Prelude.{◌≡◌, ◌≢◌, ◌^◌, ◌<◌, ◌≤◌, All, drop, false, length, map, sum_by, take, IfErr, IfOk};
 ghost use Rattle.kdf_service.specs.Rules.{IsService};
-ghost use Rattle.kdf_job.specs.Job.{SlotJob};
+ghost use Rattle.kdf_job.specs.Job.{ShownSlot};
 ghost use Rattle.kdf_job.specs.Shows.{shown_job, shown_slot};
 ghost use Rattle.kdf_job.specs.WellFormed.{IsJob};
 ghost use Rattle.kdf_place.specs.declared.image.Image.{Image};
 ghost use Rattle.kdf_theory.specs.Follows.{entries_in};
 ghost use Rattle.kdf_theory.specs.Loading.{HaveImages, slots_of};
 ghost use Rattle.kdf_theory.specs.Served.{unasked, IsJournalFor};
-ghost use Rattle.kdf_theory.specs.Shown.{ShowsSeen};
+ghost use Rattle.kdf_theory.specs.MachineView.{ShowsSeen};
 ghost use Rattle.kdf_snapshot.specs.Rebuilt.{DiffersFrom, IsRefused};
 
 use crate::differs::first_difference;
@@ -95,7 +95,7 @@ pub fn rebuild(
     requires job { IsJob (shown_job job.now) }
     requires images { HaveImages (map shown_slot job.now.slots.items)
         (map (λ (x : Image). x.words.items) images.now) }
-    requires unserved { All (λ (slot : SlotJob). slot.served ≡ false) (map shown_slot job.now.slots.items) }
+    requires unserved { All (λ (slot : ShownSlot). slot.served ≡ false) (map shown_slot job.now.slots.items) }
     requires within { first ≤ length job.now.events.items }
     ensures slots { IfOk result (λ m. m.slots ≡ slots_of (map shown_slot job.now.slots.items)
         (map (λ (x : Image). x.words.items) images.now)) }

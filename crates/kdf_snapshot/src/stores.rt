@@ -4,7 +4,7 @@ ghost use Rattle.std.specs.List.{flat_map};
 ghost use Rattle.kdf_job.specs.Shows.{shown_job, shown_slot};
 ghost use Rattle.kdf_processor.specs.State.{word_at};
 ghost use Rattle.kdf_text.specs.Text.{Adds, text};
-ghost use Rattle.kdf_theory.specs.Shown.{state_at, state_of};
+ghost use Rattle.kdf_theory.specs.MachineView.{state_at, state_of};
 ghost use Rattle.kdf_snapshot.specs.Stores.{HasStore, slot_lines, store_lines, word_lines};
 
 use kdf_director::Machine;

@@ -6,7 +6,7 @@ use Rattle.std.proofs.Common.{⊎_elim, arith}
 use Rattle.std.proofs.lemmas.Bool.{cases_eq, eq-eqb, ne_eqb}
 use Rattle.kdf_transfer.specs.Slots.{Slot}
 use Rattle.kdf_processor.specs.State.{State}
-use Rattle.kdf_theory.specs.Shown.{state_in}
+use Rattle.kdf_theory.specs.MachineView.{state_in}
 use Rattle.std.specs.List.{list_any}
 use Rattle.std.proofs.Common.{◌||◌}
 

@@ -1,6 +1,6 @@
 -- What makes a journal legal, and what makes it true.
 use Rattle.std.specs.Prelude.{◌≡◌, ℕ, List, true}
-use Rattle.kdf_processor.specs.declared.step.Step.{Step as Ending}
+use Rattle.kdf_processor.specs.declared.step.Step.{Step}
 use Rattle.kdf_processor.specs.declared.step.Step.TheVariants as ending
 use Rattle.kdf_processor.specs.Effect.{Act, Starts, Asks, Releases, Effect, Asking, Question, FreeOf}
 use Rattle.kdf_processor.specs.Needs.{next_effect}
@@ -9,7 +9,7 @@ use Rattle.kdf_transfer.specs.Slots.{Slot}
 use Rattle.kdf_processor.specs.State.{State}
 use Rattle.kdf_processor.specs.Row.{next_of}
 use Rattle.kdf_journal.specs.declared.entry.Entry.{Entry}
-use Rattle.kdf_journal.specs.Steps.{Note, Quiet, Began, Answered, Took, Gave, Failed, Finished, Step, steps}
+use Rattle.kdf_journal.specs.Steps.{Note, Quiet, Began, Answered, Took, Gave, Failed, Finished, JournalStep, steps}
 use Rattle.kdf_course.specs.Legal as course
 use Rattle.kdf_theory.specs.Next.{dispatched, lone_dispatched}
 use Rattle.kdf_theory.specs.ByJournal.{lone_world, own}
@@ -27,7 +27,7 @@ note_of_act k (Releases true d) = Gave d
 note_of_act k _ = Quiet
 
 -- the note of own order k, which ended so
-abbrev pub note_for : ℕ → Ending → Act → Note
+abbrev pub note_for : ℕ → Step → Act → Note
 note_for k (ending.Fails kind) act = Failed kind
 note_for k ending.Ends act = Finished
 note_for k _ act = note_of_act k act
@@ -51,7 +51,7 @@ abbrev pub any_answer : List Slot → List Entry → ℕ → Note → Type 0
 any_answer slots = course.one_of (notes slots)
 
 -- each step is as the rules have it in the world of lone runs, whatever the orders that asked were answered
-abbrev pub EachMeets : List Slot → List Step → Type 0
+abbrev pub EachMeets : List Slot → List JournalStep → Type 0
 EachMeets slots P = course.EachMeets (lone_dispatched slots) (any_answer slots) P
 
 abbrev pub IsLegal : List Slot → List Entry → Type 0
@@ -93,5 +93,5 @@ abbrev pub lone_note : List Slot → (heard : ℕ) → List Entry → ℕ → No
 lone_note slots heard J p = true_note (lone_world slots J) J heard p
 
 -- the step is as the rules have it in this world, and its note tells the truth, where this was heard of the service
-abbrev pub Meets : World → List Slot → List Entry → (heard : ℕ) → Step → Type 0
+abbrev pub Meets : World → List Slot → List Entry → (heard : ℕ) → JournalStep → Type 0
 Meets w slots J heard s = course.Meets (dispatched slots w) (λ p note. note ≡ true_note w J heard p) J s

@@ -11,7 +11,7 @@ pub mod Loading
 pub mod Next
 pub mod Seen
 pub mod Served
-pub mod Shown
+pub mod MachineView
 pub mod Slots
 pub mod True
 pub mod Unasked

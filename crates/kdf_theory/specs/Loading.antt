@@ -3,7 +3,7 @@ use Rattle.std.specs.Prelude.{ℕ, ◌≤◌, Bool, List, [], ◌∷◌, length,
 use Rattle.std.specs.List.{All, AllPairs, list_any}
 use Rattle.kdf_journal.specs.declared.kind.Kind.{Kind}
 use Rattle.kdf_transfer.specs.Slots.{Slot}
-use Rattle.kdf_job.specs.Job.{JobDevice, SlotJob}
+use Rattle.kdf_job.specs.Job.{JobDevice, ShownSlot}
 use Rattle.kdf_job.specs.Slots.{lent_kind, slot_with}
 use Rattle.kdf_limits.specs.declared.store.TheConstants.{PROGRAMS_WORDS}
 
@@ -18,25 +18,25 @@ pub record SlotLoad : Type 0 where
   pub served : Bool
 
 -- the slot: the words at the front of its store, and its devices by number
-abbrev pub slot_of : SlotLoad → Slot
-slot_of l = slot_with l.p l.size l.words l.devices l.pool l.served
+abbrev pub loaded_slot : SlotLoad → Slot
+loaded_slot l = slot_with l.p l.size l.words l.devices l.pool l.served
 
 -- what is loaded of a job: each slot with the words of its image
-abbrev pub load_of : SlotJob → List ℕ → SlotLoad
+abbrev pub load_of : ShownSlot → List ℕ → SlotLoad
 load_of s words =
     record { p = s.p; size = s.size; words = words; devices = s.devices; pool = s.pool; served = s.served }
 
-abbrev pub loads : List SlotJob → List (List ℕ) → List SlotLoad
+abbrev pub loads : List ShownSlot → List (List ℕ) → List SlotLoad
 loads [] images = []
 loads (s ∷ slots) [] = []
 loads (s ∷ slots) (words ∷ images) = load_of s words ∷ loads slots images
 
 -- the slots of a job with their images
-abbrev pub slots_of : List SlotJob → List (List ℕ) → List Slot
-slots_of slots images = map slot_of (loads slots images)
+abbrev pub slots_of : List ShownSlot → List (List ℕ) → List Slot
+slots_of slots images = map loaded_slot (loads slots images)
 
 -- each slot has an image, which fits its store
-abbrev pub HaveImages : List SlotJob → List (List ℕ) → Type 0
+abbrev pub HaveImages : List ShownSlot → List (List ℕ) → Type 0
 HaveImages [] [] = Unit {0}
 HaveImages [] (words ∷ images) = ⊥
 HaveImages (s ∷ slots) [] = ⊥

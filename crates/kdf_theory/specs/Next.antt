@@ -13,7 +13,7 @@ abbrev pub there_in : List Slot → ℕ → Bool
 there_in slots p = is_some (slot_of slots p)
 
 -- what dispatching reads of a world: a need is told as a hold
-abbrev pub dispatched : List Slot → World → course.World
+abbrev pub dispatched : List Slot → World → course.Dispatch
 dispatched slots w =
     record {
       there = there_in slots;
@@ -22,7 +22,7 @@ dispatched slots w =
     }
 
 -- what dispatching reads of the world of lone runs
-abbrev pub lone_dispatched : List Slot → List Entry → course.World
+abbrev pub lone_dispatched : List Slot → List Entry → course.Dispatch
 lone_dispatched slots J = dispatched slots (lone_world slots J)
 
 -- a program is live until it has ended or failed

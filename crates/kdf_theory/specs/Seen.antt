@@ -2,7 +2,7 @@
 use Rattle.std.specs.Prelude.{ℕ, ◌==◌, ◌||◌, List, length, map, Bool, false, Option, Some, None, if◌then◌else◌, is_some}
 use Rattle.std.specs.List.{list_any, range_with_len}
 use Rattle.std.proofs.Common.{zero, suc}
-use Rattle.kdf_transfer.specs.Devices.{Progress}
+use Rattle.kdf_transfer.specs.Devices.{DeviceProgress}
 use Rattle.kdf_processor.specs.declared.step.Need.{Need}
 use Rattle.kdf_processor.specs.declared.step.Need.TheVariants.{Group, Device, Pool}
 use Rattle.kdf_processor.specs.Effect.{Question, Act, Starts, Effect}
@@ -30,7 +30,7 @@ seen_word (suc d) flights a w =
     if covers d (flights d) a then word_before (flights d) a else seen_word d flights a w
 
 -- a device is as its transfer found it
-abbrev pub seen_device : Option Flight → ℕ → Progress → Progress
+abbrev pub seen_device : Option Flight → ℕ → DeviceProgress → DeviceProgress
 seen_device None d p = p
 seen_device (Some f) d p = device_at f.before d
 
@@ -53,10 +53,10 @@ touched_below zero flights g = false
 touched_below (suc d) flights g = touches (flights d) g || touched_below d flights g
 
 -- a need of the program is pending, as far as its transfers tell
-abbrev pub pending : (ℕ → Option Flight) → Need → Bool
-pending flights (Group g) = touched_below device_count flights g
-pending flights (Device d) = is_some (flights d)
-pending flights (Pool kind) = false
+abbrev pub pending_in_flight : (ℕ → Option Flight) → Need → Bool
+pending_in_flight flights (Group g) = touched_below device_count flights g
+pending_in_flight flights (Device d) = is_some (flights d)
+pending_in_flight flights (Pool kind) = false
 
 -- ---- an order by which a transfer only begins
 
@@ -82,6 +82,6 @@ begun_row s answer = begun_by answer (next_effect s) s
 abbrev pub with_store : State → List ℕ → State
 with_store s words = record s { stock = record s.stock { store = words } }
 
-abbrev pub with_both : State → List ℕ → List Progress → State
+abbrev pub with_both : State → List ℕ → List DeviceProgress → State
 with_both s words devices =
     record s { stock = record s.stock { store = words; devices = devices } }

@@ -3,7 +3,7 @@ use Rattle.std.specs.Prelude.{◌≡◌, ◌⊎◌, ℕ, ◌<◌, ◌^◌, List}
 use Rattle.kdf_processor.specs.Effect.{Question, OfService}
 use Rattle.kdf_transfer.specs.Slots.{Slot}
 use Rattle.kdf_journal.specs.declared.entry.Entry.{Entry}
-use Rattle.kdf_journal.specs.Steps.{Note, Step, added, steps}
+use Rattle.kdf_journal.specs.Steps.{Note, JournalStep, added, steps}
 use Rattle.kdf_schedule.specs.declared.event.Event.{Event}
 use Rattle.kdf_schedule.specs.Calls.{calls_made}
 use Rattle.kdf_course.specs.Legal as course
@@ -35,4 +35,4 @@ unasked word answer = ⊥
 
 -- the journal K is J, or J with a step more, whose answer, if it has one, is one of the service's or the true one
 abbrev pub IsAnswered : (answers : ℕ → ℕ → Type 0) → List Slot → (J K : List Entry) → Type 0
-IsAnswered answers slots J K = (K ≡ J) ⊎ ((s : Step) × (K ≡ added J s) × course.Noted (is_true_for answers slots J) s)
+IsAnswered answers slots J K = (K ≡ J) ⊎ ((s : JournalStep) × (K ≡ added J s) × course.Noted (is_true_for answers slots J) s)

@@ -6,7 +6,7 @@ use Rattle.kdf_processor.specs.declared.step.Need.{Need}
 use Rattle.kdf_processor.specs.declared.step.Need.TheVariants.{Group, Device, Pool}
 use Rattle.kdf_processor.specs.Needs.{needs}
 use Rattle.kdf_processor.specs.State.{State}
-use Rattle.kdf_processor.specs.declared.step.Step.{Step as Ending}
+use Rattle.kdf_processor.specs.declared.step.Step.{Step}
 use Rattle.kdf_processor.specs.declared.step.Step.TheVariants as ending
 
 -- the state of each program, what of it is pending, the devices on which it has a transfer, rising, and the least
@@ -34,6 +34,6 @@ need_of (ByDevice d) = Device d
 need_of (ByPool kind) = Pool kind
 
 -- what holds a program whose turn ended so
-abbrev pub hold_left : Ending → Option Need
+abbrev pub hold_left : Step → Option Need
 hold_left (ending.Held need) = Some need
 hold_left ended = None

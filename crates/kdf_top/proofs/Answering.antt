@@ -3,7 +3,7 @@ use Rattle.std.proofs.Common.{◌≡◌, ◌≢◌, ℕ, ◌<◌, ◌≤◌, ◌
 use Rattle.std.proofs.lemmas.List.{append-nil}
 use Rattle.kdf_io.specs.Outside.{HasRisen, Added, AddedFront}
 use Rattle.kdf_text.specs.Text.{text}
-use Rattle.kdf_theory.specs.Shown.{Shown}
+use Rattle.kdf_theory.specs.MachineView.{MachineView}
 use Rattle.kdf_command.specs.declared.command.Command.{Command}
 use Rattle.kdf_top.specs.declared.status.Status.{Status}
 use Rattle.kdf_top.specs.declared.status.Status.TheVariants as status
@@ -161,13 +161,14 @@ given_refused answers wanted told c bytes given o n is called only h =
     }
 
 -- what is answered over a text is answered over the same text
-pub given_over : (answers : ℕ → ℕ → Type 0) (c : Command) (x y : List ℕ) (given : Status) (kept : Option Shown) (o n : Outlet) → x ≡ y
+pub given_over : (answers : ℕ → ℕ → Type 0) (c : Command) (x y : List ℕ) (given : Status) (kept : Option MachineView) (o n : Outlet) → x ≡ y
     → IsGiven answers (IsCalled answers c x) (Some c) x given kept o n → IsGiven answers (IsCalled answers c y) (Some c) y given kept o n
 given_over answers c x y given kept o n e h = subst (λ z. IsGiven answers (IsCalled answers c z) (Some c) z given kept o n) e h
 
 -- ---- the text of a command, where any two answers of the service to one word are equal
 
-module _ (answers : ℕ → ℕ → Type 0) (one : (n a b : ℕ) → n < 2 ^ 48 → answers n a → answers n b → a ≡ b) (c : Command) (bytes t : List ℕ) (kept : Option Shown)
+module _ (answers : ℕ → ℕ → Type 0) (one : (n a b : ℕ) → n < 2 ^ 48 → answers n a → answers n b → a ≡ b) (c : Command) (bytes t : List ℕ)
+    (kept : Option MachineView)
     (made : IsMade answers c bytes t kept) where
   -- it is the one that is due
   due : IsDue answers (IsCalled answers c bytes) (Some c) bytes t
@@ -181,7 +182,7 @@ module _ (answers : ℕ → ℕ → Type 0) (one : (n a b : ℕ) → n < 2 ^ 48 
       (subst (λ s. IsDueAt answers s (Some c) bytes x) (one_called answers one c bytes (status_of c bytes) is.0 d.0 is.1 d.1) is.2) d.2 in
       fits (subst (λ y. length y ≤ room) same h)
 
-  kept_or_not : (k : Option Shown) → Keeps answers c bytes k → is_some k ≡ keeps_machine c
+  kept_or_not : (k : Option MachineView) → Keeps answers c bytes k → is_some k ≡ keeps_machine c
   kept_or_not None keeps = sym keeps
   kept_or_not (Some m) keeps = sym keeps.0
 

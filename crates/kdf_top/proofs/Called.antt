@@ -2,9 +2,9 @@
 use Rattle.std.proofs.Common.{◌≡◌, ℕ, ◌<◌, ◌^◌, inl, inr, List, [], Bool, true, false, Option, Some, None, refl, sym, ◌∙◌, ap, subst, arith}
 use Rattle.kdf_journal.specs.declared.entry.Entry.{Entry}
 use Rattle.kdf_job.specs.Front.{front_job}
-use Rattle.kdf_job.specs.Job.{Job}
+use Rattle.kdf_job.specs.Job.{ShownJob}
 use Rattle.kdf_theory.specs.Served.{IsJournalFor}
-use Rattle.kdf_theory.specs.Shown.{Shown}
+use Rattle.kdf_theory.specs.MachineView.{MachineView}
 use Rattle.kdf_theory.proofs.Course.OneJournal.{one_for}
 use Rattle.kdf_text.specs.Lines.{is_text, line, lines}
 use Rattle.kdf_text.specs.Text.{text}
@@ -73,17 +73,17 @@ called_done answers c bytes is assembles trusted =
 
 -- ---- the machine that is kept has the journal
 
-journal_where : (answers : ℕ → ℕ → Type 0) (keeps : Bool) (j : Job) (m : Shown) → keeps ≡ true → m.slots ≡ slots_of j
+journal_where : (answers : ℕ → ℕ → Type 0) (keeps : Bool) (j : ShownJob) (m : MachineView) → keeps ≡ true → m.slots ≡ slots_of j
     → IsJournalFor answers m.slots j.events m.journal
     → IsJournalWhere answers keeps j m.journal
 journal_where answers true j m is loaded journal = subst (λ slots. IsJournalFor answers slots j.events m.journal) loaded journal
 journal_where answers false j m is loaded journal = absurd cc
 
-no_journal : (answers : ℕ → ℕ → Type 0) (keeps : Bool) (j : Job) → keeps ≡ false → IsJournalWhere answers keeps j []
+no_journal : (answers : ℕ → ℕ → Type 0) (keeps : Bool) (j : ShownJob) → keeps ≡ false → IsJournalWhere answers keeps j []
 no_journal answers true j is = absurd cc
 no_journal answers false j is = refl
 
-pub journal_kept : (answers : ℕ → ℕ → Type 0) (c : Command) (bytes : List ℕ) (kept : Option Shown) → Keeps answers c bytes kept
+pub journal_kept : (answers : ℕ → ℕ → Type 0) (c : Command) (bytes : List ℕ) (kept : Option MachineView) → Keeps answers c bytes kept
     → IsJournalOf answers c bytes (journal_in kept)
 journal_kept answers c bytes None keeps = no_journal answers (keeps_machine c) (job_of c bytes) keeps
 journal_kept answers c bytes (Some m) keeps = journal_where answers (keeps_machine c) (job_of c bytes) m keeps.0 keeps.1.slots keeps.1.journal
@@ -125,7 +125,7 @@ module _ (answers : ℕ → ℕ → Type 0) (one : (n a b : ℕ) → n < 2 ^ 48 
   pub one_called : (c : Command) (bytes : List ℕ) (found x y : Status) → IsCalledWhere answers c bytes found x → IsCalledWhere answers c bytes found y → x ≡ y
   one_called c bytes found x y p q = one_called_in (form_of c) bytes found x y p q
 
-  one_journal_where : (keeps : Bool) (j : Job) (J K : List Entry) → IsJournalWhere answers keeps j J → IsJournalWhere answers keeps j K → J ≡ K
+  one_journal_where : (keeps : Bool) (j : ShownJob) (J K : List Entry) → IsJournalWhere answers keeps j J → IsJournalWhere answers keeps j K → J ≡ K
   one_journal_where true j J K p q = one_for answers (slots_of j) one j.events J K p q
   one_journal_where false j J K p q = p ∙ sym q
 

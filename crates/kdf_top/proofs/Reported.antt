@@ -1,12 +1,12 @@
 -- What is written of a machine that was loaded from a job and shows what is seen of the lone runs is what is due of the job.
 use Rattle.std.proofs.Common.{◌≡◌, ℕ, ◌*◌, List, [], ◌∷◌, ◌++◌, length, refl, sym, ◌∙◌, ap, ap₂, subst, All}
 use Rattle.kdf_transfer.specs.Slots.{Slot}
-use Rattle.kdf_job.specs.Job.{Job}
+use Rattle.kdf_job.specs.Job.{ShownJob}
 use Rattle.kdf_job.specs.Reading.{job}
 use Rattle.kdf_job.specs.WellFormed.{AreSlots}
 use Rattle.kdf_theory.specs.Served.{IsJournalFor}
 use Rattle.kdf_theory.specs.Loading.{HaveImages}
-use Rattle.kdf_theory.specs.Shown.{Shown, ShowsSeen, state_at}
+use Rattle.kdf_theory.specs.MachineView.{MachineView, ShowsSeen, state_at}
 use Rattle.kdf_theory.specs.Slots as director
 use Rattle.kdf_theory.specs.ByJournal.{seen_of}
 use Rattle.kdf_theory.proofs.JobsLoaded.{are_loads, are_slots}
@@ -24,7 +24,7 @@ use Rattle.kdf_text.specs.Text.{text}
 use Rattle.kdf_watch.specs.Stops.{stops_of}
 use Rattle.kdf_top.proofs.Sealing.{sealed_seen}
 
-module _ (j : Job) (m : Shown) (are : AreSlots j.slots) (fits : HaveImages j.slots (images_of j.slots)) (loaded : m.slots ≡ slots_of j)
+module _ (j : ShownJob) (m : MachineView) (are : AreSlots j.slots) (fits : HaveImages j.slots (images_of j.slots)) (loaded : m.slots ≡ slots_of j)
     (seen : ShowsSeen m) where
   -- what is loaded are slots
   can_run : director.AreSlots m.slots
@@ -33,7 +33,7 @@ module _ (j : Job) (m : Shown) (are : AreSlots j.slots) (fits : HaveImages j.slo
   pub programs : All (HasProgram m) j.slots
   programs = has_programs m j.slots (images_of j.slots) are fits loaded seen
 
-  module _ (k : Job) (is_job : j ≡ k) where
+  module _ (k : ShownJob) (is_job : j ≡ k) where
     pub machine_of : (answers : ℕ → ℕ → Type 0) → IsJournalFor answers m.slots j.events m.journal → IsMachineOf answers k m
     machine_of answers journal =
         record {
@@ -47,7 +47,7 @@ module _ (j : Job) (m : Shown) (are : AreSlots j.slots) (fits : HaveImages j.slo
     report_own t e =
         let of_slots : t ≡ report_text j m.journal (seen_of (slots_of j) m.journal) =
         e ∙ report_seen m j seen programs ∙ ap (λ (slots : List Slot). report_text j m.journal (seen_of slots m.journal)) loaded in
-        subst (λ (x : Job). t ≡ report_text x m.journal (seen_of (slots_of x) m.journal)) is_job of_slots
+        subst (λ (x : ShownJob). t ≡ report_text x m.journal (seen_of (slots_of x) m.journal)) is_job of_slots
 
     -- the stops of a watch, and the report
     pub watched_own : (slot address : ℕ) (stops t : List ℕ) → stops ≡ stops_of m.slots m.journal slot (6 * address)
@@ -61,7 +61,7 @@ module _ (j : Job) (m : Shown) (are : AreSlots j.slots) (fits : HaveImages j.slo
     pub sealed_own : sealed_with j (state_at m) ≡ sealed_text k m.journal
     sealed_own =
         sealed_seen m j seen programs ∙ ap (λ (slots : List Slot). sealed_with j (seen_of slots m.journal)) loaded
-        ∙ ap (λ (x : Job). sealed_text x m.journal) is_job
+        ∙ ap (λ (x : ShownJob). sealed_text x m.journal) is_job
 
   module _ (bytes : List ℕ) (is_job : j ≡ job bytes) where
     pub summary_own : (n len : ℕ) (t : List ℕ) → len ≡ length bytes → t ≡ summary_text n len j m.journal (state_at m) → t ≡ summary_of n bytes m.journal
@@ -69,7 +69,7 @@ module _ (j : Job) (m : Shown) (are : AreSlots j.slots) (fits : HaveImages j.slo
         let of_slots : t ≡ summary_text n (length bytes) j m.journal (seen_of (slots_of j) m.journal) =
         e ∙ summary_seen n len m j seen programs ∙ ap (λ (slots : List Slot). summary_text n len j m.journal (seen_of slots m.journal)) loaded
         ∙ ap (λ (x : ℕ). summary_text n x j m.journal (seen_of (slots_of j) m.journal)) is_length in
-        subst (λ (x : Job). t ≡ summary_text n (length bytes) x m.journal (seen_of (slots_of x) m.journal)) is_job of_slots
+        subst (λ (x : ShownJob). t ≡ summary_text n (length bytes) x m.journal (seen_of (slots_of x) m.journal)) is_job of_slots
 
     pub snapshot_own : (t : List ℕ) → t ≡ snapshot_with bytes j m.journal (state_at m) → t ≡ snapshot_of bytes m.journal
     snapshot_own t e =

@@ -7,17 +7,17 @@ use Rattle.kdf_journal.specs.declared.entry.Entry.{Entry}
 use Rattle.kdf_transfer.specs.Slots.{Slot}
 use Rattle.kdf_schedule.specs.declared.event.Event.{Event}
 use Rattle.kdf_job.specs.Front.{front_fault, front_job, front_length}
-use Rattle.kdf_job.specs.Job.{Job}
+use Rattle.kdf_job.specs.Job.{ShownJob}
 use Rattle.kdf_job.specs.More.{joined, more_events, more_fault}
 use Rattle.kdf_job.specs.Shows.{shown_job}
 use Rattle.kdf_job.specs.WellFormed.{IsJob}
 use Rattle.kdf_job.specs.declared.job.TheConstants.{TEXT_LIMIT}
 use Rattle.kdf_theory.specs.Served.{IsJournalFor}
-use Rattle.kdf_theory.specs.Shown.{Shown}
+use Rattle.kdf_theory.specs.MachineView.{MachineView}
 use Rattle.kdf_snapshot.specs.Differs.{IsDifference}
 use Rattle.kdf_snapshot.specs.Parts.{IsInside, shown_parts}
-use Rattle.kdf_snapshot.specs.declared.parts.Parts.{Parts as SplitParts}
-use Rattle.kdf_snapshot.specs.Snapshot.{Parts, parts_of}
+use Rattle.kdf_snapshot.specs.declared.parts.Parts.{Parts}
+use Rattle.kdf_snapshot.specs.Snapshot.{ShownParts, parts_of}
 use Rattle.kdf_snapshot.specs.declared.fault.SnapshotFault.TheVariants.{JournalDiffers, SealDiffers}
 use Rattle.kdf_top.specs.Answered.{IsReason}
 use Rattle.kdf_top.specs.Answers.{IsCalled, IsCalledWhere}
@@ -35,12 +35,12 @@ use Rattle.kdf_top.proofs.Called.{done_status}
 use Rattle.kdf_top.proofs.Lines.{few_lines}
 
 -- where the lines of a text are split, its parts are these
-parts_read : (bytes : List ℕ) (end line : ℕ) (p : Parts) → end ≡ front_length bytes → line ≡ length (lines (take end bytes)) + 1
+parts_read : (bytes : List ℕ) (end line : ℕ) (p : ShownParts) → end ≡ front_length bytes → line ≡ length (lines (take end bytes)) + 1
     → parts_of line (drop end bytes) ≡ Ok p → parts_in bytes ≡ Ok p
 parts_read bytes end line p is_end is_line split =
     sym (ap₂ parts_of (is_line ∙ ap (λ n. length (lines (take n bytes)) + 1) is_end) (ap (λ n. drop n bytes) is_end)) ∙ split
 
-module _ (bytes : List ℕ) (end line : ℕ) (p : SplitParts) (is_end : end ≡ front_length bytes) (is_line : line ≡ length (lines (take end bytes)) + 1)
+module _ (bytes : List ℕ) (end line : ℕ) (p : Parts) (is_end : end ≡ front_length bytes) (is_line : line ≡ length (lines (take end bytes)) + 1)
     (split : parts_of line (drop end bytes) ≡ Ok (shown_parts p)) where
   has_parts : parts_in bytes ≡ Ok (shown_parts p)
   has_parts = parts_read bytes end line (shown_parts p) is_end is_line split
@@ -49,15 +49,16 @@ module _ (bytes : List ℕ) (end line : ℕ) (p : SplitParts) (is_end : end ≡ 
   are_parts = sym (ap parts_or_none has_parts)
 
   pub entries_read : p.entries.items ≡ (parts bytes).entries
-  entries_read = ap (λ (q : Parts). q.entries) are_parts
+  entries_read = ap (λ (q : ShownParts). q.entries) are_parts
 
   -- the lines that are sealed
   sealed_at : lines (take (p.more_from - p.seal_from) (drop p.seal_from (drop end bytes))) ≡ sealed_lines bytes (parts bytes)
   sealed_at =
       ap (λ n. lines (take (p.more_from - p.seal_from) (drop p.seal_from (drop n bytes)))) is_end
-      ∙ ap (λ (q : Parts). sealed_lines bytes q) are_parts
+      ∙ ap (λ (q : ShownParts). sealed_lines bytes q) are_parts
 
-  pub is_read : (s : Snapshot) (old : Job) → length bytes ≤ TEXT_LIMIT → end ≤ length bytes → s.line ≡ line → front_fault bytes ≡ None → old ≡ front_job bytes
+  pub is_read : (s : Snapshot) (old : ShownJob) → length bytes ≤ TEXT_LIMIT → end ≤ length bytes → s.line ≡ line → front_fault bytes ≡ None
+      → old ≡ front_job bytes
       → IsInside line (length (drop end bytes)) p → more_fault p.more_line old.events (drop p.more_from (drop end bytes)) ≡ None
       → shown_job s.job ≡ joined old (more_events (drop p.more_from (drop end bytes))) → s.first ≡ length old.events → IsJob (shown_job s.job)
       → HasImages (shown_job s.job).slots s.images.items → deck_fault (shown_job s.job).slots ≡ None
@@ -67,9 +68,9 @@ module _ (bytes : List ℕ) (end line : ℕ) (p : SplitParts) (is_end : end ≡ 
       let after : drop p.more_from (drop end bytes) ≡ further bytes (shown_parts p) = ap (λ n. drop p.more_from (drop n bytes)) is_end in
       let no_more : more_fault p.more_line (front_job bytes).events (further bytes (shown_parts p)) ≡ None =
       subst (λ (x : List ℕ). more_fault p.more_line (front_job bytes).events x ≡ None) after
-      (subst (λ (j : Job). more_fault p.more_line j.events (drop p.more_from (drop end bytes)) ≡ None) is_old more) in
+      (subst (λ (j : ShownJob). more_fault p.more_line j.events (drop p.more_from (drop end bytes)) ≡ None) is_old more) in
       let told : shown_job s.job ≡ resumed_job bytes =
-      is_joined ∙ ap₂ (λ (j : Job) (x : List ℕ). joined j (more_events x)) is_old after ∙ ap (resumed_with bytes) are_parts in
+      is_joined ∙ ap₂ (λ (j : ShownJob) (x : List ℕ). joined j (more_events x)) is_old after ∙ ap (resumed_with bytes) are_parts in
       let many : length p.entries.items ≡ length (parts bytes).entries = ap length entries_read in
       let few : length p.entries.items ≤ TEXT_LIMIT = omega (arith, within, inside.entries, inside.seal, inside.more, inside.end, length-drop end bytes) in
       let most : s.line ≤ TEXT_LIMIT + 1 = omega (arith, within, line_told, is_line, few_lines (take end bytes), length-take end bytes) in
@@ -88,7 +89,7 @@ module _ (bytes : List ℕ) (end line : ℕ) (p : SplitParts) (is_end : end ≡ 
           front = front;
           split = has_parts ∙ ap Ok are_parts;
           further =
-              subst (λ (q : Parts). more_fault q.more_line (front_job bytes).events (further bytes q) ≡ None) are_parts no_more;
+              subst (λ (q : ShownParts). more_fault q.more_line (front_job bytes).events (further bytes q) ≡ None) are_parts no_more;
         };
         few = omega (arith, many, few);
         line = line_told ∙ is_line ∙ ap (λ n. length (lines (take n bytes)) + 1) is_end;
@@ -96,8 +97,8 @@ module _ (bytes : List ℕ) (end line : ℕ) (p : SplitParts) (is_end : end ≡ 
         seal_line = omega (arith, is_seal, many);
         sealed = ap lines is_sealed ∙ sealed_at;
         sealed_most = sealed_size;
-        first = first ∙ ap (λ (j : Job). length j.events) is_old;
-        loaded = record { told = told; well_formed = well; images = images; assembles = subst (λ (j : Job). deck_fault j.slots ≡ None) told assembles };
+        first = first ∙ ap (λ (j : ShownJob). length j.events) is_old;
+        loaded = record { told = told; well_formed = well; images = images; assembles = subst (λ (j : ShownJob). deck_fault j.slots ≡ None) told assembles };
       }
 
 -- why a run doesn't go on, from why the snapshot isn't that of its journal
@@ -117,7 +118,7 @@ module _ (bytes : List ℕ) (s : Snapshot) (is : IsRead bytes s) where
   -- its first events are those of the job at the front
   events_front : take s.first (shown_job s.job).events ≡ (front_job bytes).events
   events_front =
-      ap (λ n. take n (shown_job s.job).events) is.first ∙ ap (λ (j : Job). take (length (front_job bytes).events) j.events) is.loaded.told
+      ap (λ n. take n (shown_job s.job).events) is.first ∙ ap (λ (j : ShownJob). take (length (front_job bytes).events) j.events) is.loaded.told
       ∙ take-append_seam (front_job bytes).events (more_events (further bytes (parts bytes)))
 
   pub journal_front : (answers : ℕ → ℕ → Type 0) (slots : List Slot) (J : List Entry) → slots ≡ slots_of (shown_job s.job)
@@ -146,7 +147,7 @@ module _ (bytes : List ℕ) (s : Snapshot) (is : IsRead bytes s) where
   )
 
   -- what is sealed, and what it is compared with
-  module _ (m : Shown) (these those : List ℕ) (entries : m.journal ≡ (parts bytes).entries) (is_these : these ≡ s.sealed.items)
+  module _ (m : MachineView) (these those : List ℕ) (entries : m.journal ≡ (parts bytes).entries) (is_these : these ≡ s.sealed.items)
       (is_those : those ≡ sealed_text (front_job bytes) m.journal) where
     pub same_seal : lines these ≡ lines those → IsOf bytes m.journal
     same_seal same = record { entries = sym entries; sealed = sym (ap lines is_these ∙ is.sealed) ∙ same ∙ ap lines is_those }
@@ -167,5 +168,5 @@ module _ (bytes : List ℕ) (s : Snapshot) (is : IsRead bytes s) where
         ))
 
   -- where the snapshot is that of the journal, it is trusted
-  pub trusted : (answers : ℕ → ℕ → Type 0) (m : Shown) → IsSaved answers bytes s m → IsOf bytes m.journal → IsComparedFor answers bytes status.Done
+  pub trusted : (answers : ℕ → ℕ → Type 0) (m : MachineView) → IsSaved answers bytes s m → IsOf bytes m.journal → IsComparedFor answers bytes status.Done
   trusted answers m saved of = (m.journal, journal_front answers m.slots m.journal saved.slots saved.journal, inl (refl, of))

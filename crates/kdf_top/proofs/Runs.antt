@@ -5,15 +5,15 @@ use Rattle.std.proofs.lemmas.Bool.{lt-ltb, le-ltb}
 use Rattle.kdf_io.specs.Outside.{HasRisen, Advances, NothingLeft}
 use Rattle.kdf_io.specs.Reading.{TakesAtMost, TookBefore}
 use Rattle.kdf_io.specs.declared.read_end.ReadEnd.TheVariants.{Large}
-use Rattle.kdf_usercode.specs.Faults.{Found}
+use Rattle.kdf_usercode.specs.Faults.{FoundFault}
 use Rattle.kdf_job.specs.Front.{front_fault, front_job}
 use Rattle.kdf_job.specs.Made.{made_text}
 use Rattle.kdf_job.specs.More.{more_fault}
 use Rattle.kdf_job.specs.Reading.{job_fault}
 use Rattle.kdf_job.specs.declared.fault.JobFault.{JobFault}
 use Rattle.kdf_job.specs.declared.job.TheConstants.{TEXT_LIMIT}
-use Rattle.kdf_theory.specs.Shown.{Shown}
-use Rattle.kdf_snapshot.specs.Snapshot.{Parts}
+use Rattle.kdf_theory.specs.MachineView.{MachineView}
+use Rattle.kdf_snapshot.specs.Snapshot.{ShownParts}
 use Rattle.kdf_snapshot.specs.declared.fault.SnapshotFault.{SnapshotFault}
 use Rattle.kdf_command.specs.declared.command.Command.{Command}
 use Rattle.kdf_command.specs.declared.command.Input.{Input}
@@ -73,7 +73,7 @@ job_no_usage : (fault : Option (JobFault × ℕ)) → status_of_line fault ≢ s
 job_no_usage None e = cc
 job_no_usage (Some x) e = cc
 
-parts_no_usage : (bytes : List ℕ) (r : Result Parts (SnapshotFault × ℕ)) → status_of_parts bytes r ≢ status.Usage
+parts_no_usage : (bytes : List ℕ) (r : Result ShownParts (SnapshotFault × ℕ)) → status_of_parts bytes r ≢ status.Usage
 parts_no_usage bytes (Ok p) e = job_no_usage (more_fault p.more_line (front_job bytes).events (further bytes p)) e
 parts_no_usage bytes (Err found) e = cc
 
@@ -81,7 +81,7 @@ front_no_usage : (bytes : List ℕ) (fault : Option (JobFault × ℕ)) → statu
 front_no_usage bytes None e = parts_no_usage bytes (parts_in bytes) e
 front_no_usage bytes (Some x) e = cc
 
-decks_no_usage : (found : Status) (first : Option (ℕ × Found)) → found ≢ status.Usage → or_decks found first ≢ status.Usage
+decks_no_usage : (found : Status) (first : Option (ℕ × FoundFault)) → found ≢ status.Usage → or_decks found first ≢ status.Usage
 decks_no_usage status.Done None other e = cc
 decks_no_usage status.Done (Some x) other e = cc
 decks_no_usage status.Usage first other e = other e
@@ -166,7 +166,7 @@ makes_it c n e = ap is_read e
 
 -- ---- an answer to a command or to other words: `one` over the bytes that were read, and `all` over those that are told
 
-run_by : (answers : ℕ → ℕ → Type 0) (c : Option Command) (wanted : Status → Type 0) (read : List ℕ) (given : Status) (kept : Option Shown)
+run_by : (answers : ℕ → ℕ → Type 0) (c : Option Command) (wanted : Status → Type 0) (read : List ℕ) (given : Status) (kept : Option MachineView)
     (source source' : Inlet) (o n : Outlet)
     → (is_some c ≡ true → ¬ (wanted status.Usage)) → IsGiven answers wanted c (text_by c read) given kept o n
     → (reads_by c ≡ false → IsGiven answers (IsCalledBy answers c []) c (text_by c []) given kept o n)
@@ -208,14 +208,14 @@ untouched None left = refl
 untouched (Some c) left = untouched_by (input_of c) left
 
 -- words that are no command
-pub run_usage : (answers : ℕ → ℕ → Type 0) (given : Status) (kept : Option Shown) (source : Inlet) (o n : Outlet)
+pub run_usage : (answers : ℕ → ℕ → Type 0) (given : Status) (kept : Option MachineView) (source : Inlet) (o n : Outlet)
     → ((bytes : List ℕ) → IsGiven answers (λ x. x ≡ status.Usage) None bytes given kept o n) → IsRun answers None given kept source source o n
 run_usage answers given kept source o n given_usage =
     run_by answers None (λ x. x ≡ status.Usage) [] given kept source source o n (λ is. absurd (cc)) (given_usage []) (λ _. given_usage [])
     (all_some _ source.left (λ bytes. given_usage bytes)) (λ d reads. absurd (cc)) (λ d. nothing_taken source.left) refl (omega arith)
 
 -- an answer over the text that a command works on
-over_text : (answers : ℕ → ℕ → Type 0) (c : Command) (bytes x : List ℕ) (given : Status) (kept : Option Shown) (o n : Outlet) → job_text c bytes ≡ x
+over_text : (answers : ℕ → ℕ → Type 0) (c : Command) (bytes x : List ℕ) (given : Status) (kept : Option MachineView) (o n : Outlet) → job_text c bytes ≡ x
     → called_by (Some c) bytes ≡ status_of c (job_text c bytes) → IsGiven answers (IsCalled answers c x) (Some c) x given kept o n
     → IsGiven answers (IsCalledBy answers (Some c) bytes) (Some c) (text_by (Some c) bytes) given kept o n
 over_text answers c bytes x given kept o n is called h =
@@ -223,7 +223,8 @@ over_text answers c bytes x given kept o n is called h =
     (subst (λ t. IsGiven answers (IsCalled answers c t) (Some c) t given kept o n) (sym is) h)
 
 -- a command that makes its text
-pub run_made : (answers : ℕ → ℕ → Type 0) (c : Command) (n : ℕ) (given : Status) (kept : Option Shown) (source : Inlet) (o new : Outlet) → input_of c ≡ Made n
+pub run_made : (answers : ℕ → ℕ → Type 0) (c : Command) (n : ℕ) (given : Status) (kept : Option MachineView) (source : Inlet) (o new : Outlet)
+    → input_of c ≡ Made n
     → IsGiven answers (IsCalled answers c (made_text n)) (Some c) (made_text n) given kept o new → IsRun answers (Some c) given kept source source o new
 run_made answers c n given kept source o new is one =
     let over : (bytes : List ℕ) → IsGiven answers (IsCalledBy answers (Some c) bytes) (Some c) (text_by (Some c) bytes) given kept o new =
@@ -255,7 +256,7 @@ module _ (answers : ℕ → ℕ → Type 0) (c : Command) (limit : ℕ) (is : in
   reads none = let all = reads_it c limit is in cc
 
   -- all bytes were read
-  pub run_read : (read : List ℕ) (given : Status) (kept : Option Shown) (o n : Outlet)
+  pub run_read : (read : List ℕ) (given : Status) (kept : Option MachineView) (o n : Outlet)
       → length read ≤ limit → Advances source.left read source'.left → NothingLeft source'.left → IfSome source.left (λ bytes. read ≡ bytes)
       → IsGiven answers (IsCalled answers c read) (Some c) read given kept o n → IsRun answers (Some c) given kept source source' o n
   run_read read given kept o n short took ended whole one =
@@ -270,7 +271,7 @@ module _ (answers : ℕ → ℕ → Type 0) (c : Command) (limit : ℕ) (is : in
       (λ d _. ended) (λ d. took) taken falls
 
   -- more bytes came than may be read
-  pub run_large : (given : Status) (kept : Option Shown) (o n : Outlet) → IfSome source.left (λ bytes. limit < length bytes) → given ≢ status.Done
+  pub run_large : (given : Status) (kept : Option MachineView) (o n : Outlet) → IfSome source.left (λ bytes. limit < length bytes) → given ≢ status.Done
       → ((wanted : Status → Type 0) (bytes : List ℕ) → wanted status.Large → ((x : Status) → wanted x → x ≡ status.Large)
       → IsGiven answers wanted (Some c) bytes given kept o n)
       → IsRun answers (Some c) given kept source source' o n

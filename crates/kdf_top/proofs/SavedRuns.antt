@@ -8,7 +8,7 @@ use Rattle.kdf_transfer.specs.Slots.{Slot}
 use Rattle.kdf_schedule.specs.declared.event.Event.{Event}
 use Rattle.kdf_schedule.specs.Calls.{Call, calls_made}
 use Rattle.kdf_job.specs.Front.{front_job}
-use Rattle.kdf_job.specs.Job.{Job, SlotJob}
+use Rattle.kdf_job.specs.Job.{ShownJob, ShownSlot}
 use Rattle.kdf_job.specs.More.{joined, more_events}
 use Rattle.kdf_job.specs.Reading.{job, job_fault}
 use Rattle.kdf_job.specs.WellFormed as well
@@ -16,7 +16,7 @@ use Rattle.kdf_job.proofs.JoinedJobs.{joined_fault, joined_job}
 use Rattle.kdf_theory.specs.Follows.{IsWhole}
 use Rattle.kdf_theory.specs.Loading as loading
 use Rattle.kdf_theory.specs.Served.{IsJournalFor}
-use Rattle.kdf_theory.specs.Shown.{Shown}
+use Rattle.kdf_theory.specs.MachineView.{MachineView}
 use Rattle.kdf_theory.proofs.Course.OneJournal.{one_for}
 use Rattle.kdf_report.specs.Text.{report_lines}
 use Rattle.kdf_report.proofs.FaultlessJobs.{bare, faultless}
@@ -42,10 +42,10 @@ use Rattle.kdf_top.proofs.SavedTexts.{any_number, front_again, job_again, of_aga
 abbrev IsWithin : Slot → Type 0
 IsWithin s = (s.p < 4) × (s.size ≤ 8192)
 
-loaded_within : (slots : List SlotJob) (images : List (List ℕ)) → All well.IsSlot (map bare slots) → All IsWithin (loading.slots_of slots images)
+loaded_within : (slots : List ShownSlot) (images : List (List ℕ)) → All well.IsSlot (map bare slots) → All IsWithin (loading.slots_of slots images)
 loaded_within [] images each = λ k d lt. absurd (omega arith)
 loaded_within (s ∷ slots) [] each = λ k d lt. absurd (omega arith)
-loaded_within (s ∷ slots) (words ∷ images) each = both (loading.slot_of (loading.load_of s words)) (loading.slots_of slots images)
+loaded_within (s ∷ slots) (words ∷ images) each = both (loading.loaded_slot (loading.load_of s words)) (loading.slots_of slots images)
     (let this = each 0 (bare s) (omega arith) in (this.number, this.most)) (loaded_within slots images (λ k d lt. each (suc k) d (omega arith)))
   where
     both : (x : Slot) (xs : List Slot) → IsWithin x → All IsWithin xs → All IsWithin (x ∷ xs)
@@ -60,18 +60,19 @@ module _ (answers : ℕ → ℕ → Type 0) (are_words : (n a : ℕ) → n < 2 ^
 
 -- ---- jobs with the same slots and calls
 
-pub same_report : (j k : Job) (J : List Entry) → j.slots ≡ k.slots → report_of j J ≡ report_of k J
+pub same_report : (j k : ShownJob) (J : List Entry) → j.slots ≡ k.slots → report_of j J ≡ report_of k J
 unfolding report_lines
-same_report j k J same = ap (λ (slots : List SlotJob). report_of (record { slots = slots; events = []; pool = [] }) J) same
+same_report j k J same = ap (λ (slots : List ShownSlot). report_of (record { slots = slots; events = []; pool = [] }) J) same
 
-same_loaded : (j k : Job) → j.slots ≡ k.slots → slots_of j ≡ slots_of k
-same_loaded j k same = ap (λ (slots : List SlotJob). loading.slots_of slots (images_of slots)) same
+same_loaded : (j k : ShownJob) → j.slots ≡ k.slots → slots_of j ≡ slots_of k
+same_loaded j k same = ap (λ (slots : List ShownSlot). loading.slots_of slots (images_of slots)) same
 
 same_journal : (answers : ℕ → ℕ → Type 0) (slots : List Slot) (es fs : List Event) (J : List Entry) → calls_made es ≡ calls_made fs
     → IsJournalFor answers slots es J → IsJournalFor answers slots fs J
 same_journal answers slots es fs J same j = record { legal = j.legal; truly = j.truly; whole = subst (λ (cs : List Call). IsWhole slots cs J) same j.whole }
 
-same_machine : (answers : ℕ → ℕ → Type 0) (j k : Job) (m : Shown) → j.slots ≡ k.slots → calls_made j.events ≡ calls_made k.events → IsMachineOf answers j m
+same_machine : (answers : ℕ → ℕ → Type 0) (j k : ShownJob) (m : MachineView) → j.slots ≡ k.slots → calls_made j.events ≡ calls_made k.events
+    → IsMachineOf answers j m
     → IsMachineOf answers k m
 same_machine answers j k m slots calls is = record {
   slots = is.slots ∙ same_loaded j k slots;
@@ -81,13 +82,13 @@ same_machine answers j k m slots calls is = record {
 }
 
 -- a machine of the one is kept where that of the other is
-run_kept : (answers : ℕ → ℕ → Type 0) (whole text : List ℕ) (kept : Option Shown) → (job whole).slots ≡ (resumed_job text).slots
+run_kept : (answers : ℕ → ℕ → Type 0) (whole text : List ℕ) (kept : Option MachineView) → (job whole).slots ≡ (resumed_job text).slots
     → calls_made (job whole).events ≡ calls_made (resumed_job text).events
     → Keeps answers Run whole kept → Keeps answers Resume text kept
 run_kept answers whole text None slots calls keeps = absurd cc
 run_kept answers whole text (Some m) slots calls keeps = (refl, same_machine answers (job whole) (resumed_job text) m slots calls keeps.1)
 
-resume_kept : (answers : ℕ → ℕ → Type 0) (whole text : List ℕ) (kept : Option Shown) → (job whole).slots ≡ (resumed_job text).slots
+resume_kept : (answers : ℕ → ℕ → Type 0) (whole text : List ℕ) (kept : Option MachineView) → (job whole).slots ≡ (resumed_job text).slots
     → calls_made (job whole).events ≡ calls_made (resumed_job text).events
     → Keeps answers Resume text kept → Keeps answers Run whole kept
 resume_kept answers whole text None slots calls keeps = absurd cc
@@ -101,7 +102,7 @@ short limit n within =
 
 module _ (answers : ℕ → ℕ → Type 0) (are_words : (n a : ℕ) → n < 2 ^ 48 → answers n a → a < 2 ^ 48) (one : (n a b : ℕ) → n < 2 ^ 48 → answers n a → answers n b
     → a ≡ b)
-    (bytes saved more : List ℕ) (kept : Option Shown) (made : IsMade answers Save bytes saved kept) (goes_on : IsFurther (job bytes) more) where
+    (bytes saved more : List ℕ) (kept : Option MachineView) (made : IsMade answers Save bytes saved kept) (goes_on : IsFurther (job bytes) more) where
   abbrev J : List Entry
   J = journal_in kept
 
@@ -124,12 +125,12 @@ module _ (answers : ℕ → ℕ → Type 0) (are_words : (n a : ℕ) → n < 2 ^
   front_told = front_again bytes more J made.faultless entries goes_on
 
   assembles_again : deck_fault (resumed_job again).slots ≡ None
-  assembles_again = ap (λ (j : Job). deck_fault j.slots) told_again ∙ made.assembles
+  assembles_again = ap (λ (j : ShownJob). deck_fault j.slots) told_again ∙ made.assembles
 
   trusted_again : IsComparedFor answers again status.Done
   trusted_again = (
     J,
-    subst (λ (j : Job). IsJournalFor answers (slots_of j) j.events J) (sym front_told) its_journal,
+    subst (λ (j : ShownJob). IsJournalFor answers (slots_of j) j.events J) (sym front_told) its_journal,
     inl (refl, of_again bytes more J made.faultless entries goes_on),
   )
 
@@ -167,15 +168,16 @@ module _ (answers : ℕ → ℕ → Type 0) (are_words : (n a : ℕ) → n < 2 ^
 
   module _ (whole : List ℕ) (is : IsWholeRun (job bytes) more whole) where
     same_slots : (job whole).slots ≡ (resumed_job (saved ++ more)).slots
-    same_slots = is.slots ∙ ap (λ (j : Job). j.slots) (sym resumed.told)
+    same_slots = is.slots ∙ ap (λ (j : ShownJob). j.slots) (sym resumed.told)
 
     same_calls : calls_made (job whole).events ≡ calls_made (resumed_job (saved ++ more)).events
-    same_calls = is.calls ∙ ap (λ (j : Job). calls_made j.events) (sym resumed.told)
+    same_calls = is.calls ∙ ap (λ (j : ShownJob). calls_made j.events) (sym resumed.told)
 
     whole_assembles : deck_fault (job whole).slots ≡ None
     whole_assembles = ap deck_fault is.slots ∙ made.assembles
 
-    pub from_run : (report : List ℕ) (machine : Option Shown) → IsMade answers Run whole report machine → IsMade answers Resume (saved ++ more) report machine
+    pub from_run : (report : List ℕ) (machine : Option MachineView) → IsMade answers Run whole report machine
+        → IsMade answers Resume (saved ++ more) report machine
     from_run report machine run = record {
       faultless = resumed.faultless;
       assembles = resumed.assembles;
@@ -184,7 +186,7 @@ module _ (answers : ℕ → ℕ → Type 0) (are_words : (n a : ℕ) → n < 2 ^
       text_is = run.text_is ∙ same_report (job whole) (resumed_job (saved ++ more)) (journal_in machine) same_slots;
     }
 
-    pub from_resume : (report : List ℕ) (machine : Option Shown) → IsMade answers Resume (saved ++ more) report machine
+    pub from_resume : (report : List ℕ) (machine : Option MachineView) → IsMade answers Resume (saved ++ more) report machine
         → IsMade answers Run whole report machine
     from_resume report machine resume = record {
       faultless = is.faultless;
@@ -194,7 +196,7 @@ module _ (answers : ℕ → ℕ → Type 0) (are_words : (n a : ℕ) → n < 2 ^
       text_is = resume.text_is ∙ same_report (resumed_job (saved ++ more)) (job whole) (journal_in machine) (sym same_slots);
     }
 
-    pub one_report : (report other : List ℕ) (machine second : Option Shown) → IsMade answers Run whole report machine
+    pub one_report : (report other : List ℕ) (machine second : Option MachineView) → IsMade answers Run whole report machine
         → IsMade answers Resume (saved ++ more) other second → other ≡ report
     one_report report other machine second run resume =
         let also = from_resume other second resume in
@@ -239,4 +241,4 @@ pub whole_of : (bytes more whole : List ℕ) → job_fault bytes ≡ None → Go
 whole_of bytes more whole free on goes_on =
     let clear : job_fault whole ≡ None = joined_fault bytes whole more on.0 on.1 free on.2 ∙ any_number 1 (length on.0 + 1) (job bytes).events more goes_on in
     let told : job whole ≡ joined (job bytes) (more_events more) = joined_job bytes whole more on.0 on.1 free on.2 clear in
-    record { faultless = clear; slots = ap (λ (j : Job). j.slots) told; calls = ap (λ (j : Job). calls_made j.events) told }
+    record { faultless = clear; slots = ap (λ (j : ShownJob). j.slots) told; calls = ap (λ (j : ShownJob). calls_made j.events) told }

@@ -8,14 +8,14 @@ use Rattle.kdf_journal.specs.declared.entry.Entry.{Entry}
 use Rattle.kdf_journal.specs.Printed.{IsEntry}
 use Rattle.kdf_schedule.specs.declared.event.Event.{Event}
 use Rattle.kdf_job.specs.declared.fault.JobFault.{JobFault}
-use Rattle.kdf_job.specs.Draft.{Draft, blank, job_of}
+use Rattle.kdf_job.specs.Draft.{ShownDraft, blank, job_of}
 use Rattle.kdf_job.specs.Front.{front, front_fault, front_job, front_length}
-use Rattle.kdf_job.specs.Job.{Job}
+use Rattle.kdf_job.specs.Job.{ShownJob}
 use Rattle.kdf_job.specs.More.{joined, more_events, more_fault, scheduled}
 use Rattle.kdf_job.specs.Reading.{at_line, behind_line, draft_of, end_fault, fault_from, job, job_fault, read_line}
-use Rattle.kdf_job.specs.declared.place.Place.TheVariants.{InSchedule}
+use Rattle.kdf_job.specs.declared.line_place.LinePlace.TheVariants.{InSchedule}
 use Rattle.kdf_job.proofs.FrontLaws.{front_before}
-use Rattle.kdf_snapshot.specs.Snapshot.{Parts, parts_of}
+use Rattle.kdf_snapshot.specs.Snapshot.{ShownParts, parts_of}
 use Rattle.kdf_snapshot.specs.Written.{journal_text, parts_written, seal_text}
 use Rattle.kdf_snapshot.proofs.WrittenParts.{parts_again}
 use Rattle.kdf_top.specs.Snapshots.{IsOf, IsSnapshot, after_job, ended, further, is_ended, line_after_job, parts, parts_in, parts_or_none, resumed_job}
@@ -30,12 +30,13 @@ at_any : (n m : ℕ) (o : Option JobFault) → at_line n o ≡ None → at_line 
 at_any n m None none = refl
 at_any n m (Some fault) none = absurd cc
 
-behind_any : (n m : ℕ) (r : Result Draft JobFault) (f g : Draft → Option (JobFault × ℕ)) → ((e : Draft) → f e ≡ None → g e ≡ None) → behind_line n r f ≡ None
+behind_any : (n m : ℕ) (r : Result ShownDraft JobFault) (f g : ShownDraft → Option (JobFault × ℕ)) → ((e : ShownDraft) → f e ≡ None → g e ≡ None)
+    → behind_line n r f ≡ None
     → behind_line m r g ≡ None
 behind_any n m (Err fault) f g on none = absurd cc
 behind_any n m (Ok e) f g on none = on e none
 
-none_from : (n m : ℕ) (d : Draft) (ls : List (List ℕ)) → fault_from n d ls ≡ None → fault_from m d ls ≡ None
+none_from : (n m : ℕ) (d : ShownDraft) (ls : List (List ℕ)) → fault_from n d ls ≡ None → fault_from m d ls ≡ None
 none_from n m d [] none = at_any n m (end_fault d.place) none
 none_from n m d (l ∷ ls) none =
     behind_any n m (read_line d l) (λ e. fault_from (n + 1) e ls) (λ e. fault_from (m + 1) e ls) (λ e. none_from (n + 1) (m + 1) e ls) none
@@ -167,7 +168,7 @@ module _ (bytes more : List ℕ) (J : List Entry) (free : job_fault bytes ≡ No
   abbrev first : ℕ
   first = line_after_job saved_more
 
-  abbrev split_to : Parts
+  abbrev split_to : ShownParts
   split_to = parts_written first J sealed
 
   has_parts : parts_in saved_more ≡ Ok split_to
@@ -189,13 +190,13 @@ module _ (bytes more : List ℕ) (J : List Entry) (free : job_fault bytes ≡ No
     front = front_free bytes rest_of free;
     split = has_parts ∙ ap Ok (sym are_parts);
     further = ap (λ p. more_fault p.more_line (front_job saved_more).events (further saved_more p)) are_parts
-        ∙ ap₂ (λ (j : Job) bs. more_fault split_to.more_line j.events bs) (front_told bytes rest_of free) further_is
+        ∙ ap₂ (λ (j : ShownJob) bs. more_fault split_to.more_line j.events bs) (front_told bytes rest_of free) further_is
         ∙ any_number 1 split_to.more_line (job bytes).events more further_free;
   }
 
   saved_of : IsOf saved_more J
   saved_of = record {
-    entries = ap (λ (p : Parts). p.entries) are_parts;
+    entries = ap (λ (p : ShownParts). p.entries) are_parts;
     sealed = ap (sealed_lines saved_more) are_parts ∙ sealed_is ∙ ap (λ j. lines (sealed_text j J)) (sym (front_told bytes rest_of free));
   }
 

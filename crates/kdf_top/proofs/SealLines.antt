@@ -15,18 +15,18 @@ use Rattle.kdf_journal.specs.Kinds.{kind_name}
 use Rattle.kdf_qstore.specs.declared.triple.Triple.{Triple}
 use Rattle.kdf_qstore.specs.Triples.{triple_at}
 use Rattle.kdf_tape.specs.Tape.{Recorded}
-use Rattle.kdf_transfer.specs.Devices.{Fixture, Progress}
+use Rattle.kdf_transfer.specs.Devices.{Fixture, DeviceProgress}
 use Rattle.kdf_processor.specs.declared.registers.Life.{Life}
 use Rattle.kdf_processor.specs.declared.registers.Life.TheVariants as life
 use Rattle.kdf_processor.specs.declared.registers.Registers.{Registers}
 use Rattle.kdf_processor.specs.declared.spooled.Spooled.{Spooled}
 use Rattle.kdf_processor.specs.Claims.{is_claimed}
 use Rattle.kdf_processor.specs.State.{Lending, State, device_at, lendings, own_fixture_at, word_at}
-use Rattle.kdf_job.specs.Job.{Job, SlotJob}
+use Rattle.kdf_job.specs.Job.{ShownJob, ShownSlot}
 use Rattle.kdf_report.specs.Devices.{bit, block_line, block_lines, block_name, device_line, device_lines, device_numbers, holding, host_text, own_lines}
 use Rattle.kdf_report.specs.Devices.{stint_lines, tape_line}
 use Rattle.kdf_report.specs.Text.{life_line, life_name, links_line, nest_line, q_line, q_lines, registers_lines, section, sections_lines, show_lines}
-use Rattle.kdf_report.specs.Text.{spool_line, word_line}
+use Rattle.kdf_report.specs.Text.{spool_line, word_line_at}
 use Rattle.kdf_snapshot.specs.Stores.{slot_lines, store_line, store_lines, word_lines}
 use Rattle.kdf_snapshot.specs.Written.{CanBeSealed}
 use Rattle.kdf_snapshot.proofs.WholeLines.{IsWhole, decimal-whole, mapped-whole, octal-whole, whole-append}
@@ -156,7 +156,7 @@ registers_can r =
 
 -- ---- words, spooled texts and devices
 
-word_can : (s : State) (a : ℕ) → CanBeSealed (word_line s a)
+word_can : (s : State) (a : ℕ) → CanBeSealed (word_line_at s a)
 word_can s a =
     record {
       whole = more (codes "WORD " ++ decimal a) (octal (word_at s a)) (whole-append (codes "WORD ") (decimal a) refl (decimal-whole a))
@@ -165,7 +165,7 @@ word_can s a =
     }
 
 shows_can : (s : State) (show : ℕ × ℕ) → AreSealable (show_lines s show)
-shows_can s show = map_lines (word_line s) (range_with_len show.0 (show.1 + 1 - show.0)) (word_can s)
+shows_can s show = map_lines (word_line_at s) (range_with_len show.0 (show.1 + 1 - show.0)) (word_can s)
 
 spool_can : (x : Spooled) → CanBeSealed (spool_line x)
 spool_can x =
@@ -175,7 +175,7 @@ spool_can x =
       other = refl;
     }
 
-device_whole : (word : List ℕ) (d : ℕ) (held : Bool) (kind : Kind) (x : Progress) → IsWhole word → IsWhole (device_line word d held kind x)
+device_whole : (word : List ℕ) (d : ℕ) (held : Bool) (kind : Kind) (x : DeviceProgress) → IsWhole word → IsWhole (device_line word d held kind x)
 device_whole word d held kind x is =
     let a = number word d is in
     let b = more (word ++ codes " " ++ decimal d) (kind_name kind) a (kind_whole kind) in
@@ -195,14 +195,14 @@ tape_can block = by block.mark
     by true = record { whole = more (codes "LAST") (host_text (codes_of_all block.words)) refl (host_whole (codes_of_all block.words)); other = refl }
     by false = record { whole = more (codes "BLOCK") (host_text (codes_of_all block.words)) refl (host_whole (codes_of_all block.words)); other = refl }
 
-blocks_can : (kind : Kind) (x : Progress) → AreSealable (block_lines kind x)
+blocks_can : (kind : Kind) (x : DeviceProgress) → AreSealable (block_lines kind x)
 blocks_can Tr x = tt
 blocks_can Tp x = map_lines block_line x.blocks block_can
 blocks_can Cr x = tt
 blocks_can Lp x = map_lines block_line x.blocks block_can
 blocks_can Mt x = map_lines tape_line x.recorded tape_can
 
-own_can : (d : ℕ) (claimed : Bool) (o : Option Fixture) (x : Progress) → AreSealable (own_lines d claimed o x)
+own_can : (d : ℕ) (claimed : Bool) (o : Option Fixture) (x : DeviceProgress) → AreSealable (own_lines d claimed o x)
 own_can d claimed None x = tt
 own_can d claimed (Some f) x = (record { whole = device_whole (codes "DEVICE") d claimed f.kind x refl; other = refl }, blocks_can f.kind x)
 
@@ -216,7 +216,7 @@ stint_can x = (record { whole = device_whole (codes "POOL") x.device (not x.give
 slot_can : (p : ℕ) → CanBeSealed (codes "SLOT " ++ decimal p)
 slot_can p = record { whole = whole-append (codes "SLOT ") (decimal p) refl (decimal-whole p); other = refl }
 
-section_can : (slot : SlotJob) (s : State) → AreSealable (section slot s)
+section_can : (slot : ShownSlot) (s : State) → AreSealable (section slot s)
 unfolding section
 section_can slot s =
     let shows = flat_map (show_lines s) slot.shows in
@@ -241,11 +241,11 @@ store_can p a w =
 words_can : (p a w : ℕ) → AreSealable (word_lines p a w)
 words_can p a w = if_line (eqb w 0) (store_line p a w) (store_can p a w)
 
-pub seal_can : (j : Job) (states : ℕ → State) → All CanBeSealed (seal_lines j states)
+pub seal_can : (j : ShownJob) (states : ℕ → State) → All CanBeSealed (seal_lines j states)
 seal_can j states =
     all_sealable (seal_lines j states)
     (lines_append (sections_lines j states) (store_lines j states)
-    (flat_lines (λ (slot : SlotJob). section slot (states slot.p)) j.slots (λ slot. section_can slot (states slot.p)))
-    (flat_lines (λ (slot : SlotJob). slot_lines slot (states slot.p)) j.slots
+    (flat_lines (λ (slot : ShownSlot). section slot (states slot.p)) j.slots (λ slot. section_can slot (states slot.p)))
+    (flat_lines (λ (slot : ShownSlot). slot_lines slot (states slot.p)) j.slots
     (λ slot. flat_lines (λ a. word_lines slot.p a (word_at (states slot.p) a)) (range_with_len 0 slot.size)
     (λ a. words_can slot.p a (word_at (states slot.p) a)))))

@@ -4,7 +4,7 @@ use Rattle.kdf_text.specs.Text.{end_line, text}
 use Rattle.kdf_text.proofs.Texts.{text_more}
 use Rattle.kdf_transfer.specs.Slots.{Slot}
 use Rattle.kdf_job.specs.Front.{front_job}
-use Rattle.kdf_job.specs.Job.{Job}
+use Rattle.kdf_job.specs.Job.{ShownJob}
 use Rattle.kdf_check.specs.Report.{IsCheck}
 use Rattle.kdf_check.specs.declared.verdict.Verdict.{Verdict}
 use Rattle.kdf_top.specs.Due.{IsVerdictOf, check_line, verdict_line, verdict_lines}
@@ -19,15 +19,15 @@ verdict_whole v none head mid all is_none first second last =
     subst (λ x. all ≡ x ++ text (verdict_lines v)) is_none whole
 
 -- a report of a job, and the text that tells the verdict on it
-abbrev pub IsVerdictOn : (answers : ℕ → ℕ → Type 0) → Job → List ℕ → List ℕ → Type 0
+abbrev pub IsVerdictOn : (answers : ℕ → ℕ → Type 0) → ShownJob → List ℕ → List ℕ → Type 0
 IsVerdictOn answers j report due = (v : Verdict) × IsCheck answers (slots_of j) j.events report v × (due ≡ text (verdict_lines v))
 
-pub verdict_on : (answers : ℕ → ℕ → Type 0) (j : Job) (slots : List Slot) (report due : List ℕ) (v : Verdict) → slots ≡ slots_of j
+pub verdict_on : (answers : ℕ → ℕ → Type 0) (j : ShownJob) (slots : List Slot) (report due : List ℕ) (v : Verdict) → slots ≡ slots_of j
     → IsCheck answers slots j.events report v → due ≡ text (verdict_lines v) → IsVerdictOn answers j report due
 verdict_on answers j slots report due v are check is_due = (v, subst (λ (xs : List Slot). IsCheck answers xs j.events report v) are check, is_due)
 
-pub verdict_of : (answers : ℕ → ℕ → Type 0) (bytes : List ℕ) (j : Job) (rest due : List ℕ) → j ≡ front_job bytes → rest ≡ after_job bytes
+pub verdict_of : (answers : ℕ → ℕ → Type 0) (bytes : List ℕ) (j : ShownJob) (rest due : List ℕ) → j ≡ front_job bytes → rest ≡ after_job bytes
     → IsVerdictOn answers j rest due
     → IsVerdictOf answers bytes due
 verdict_of answers bytes j rest due is_front is_rest said =
-    subst (λ (x : Job). IsVerdictOn answers x (after_job bytes) due) is_front (subst (λ bs. IsVerdictOn answers j bs due) is_rest said)
+    subst (λ (x : ShownJob). IsVerdictOn answers x (after_job bytes) due) is_front (subst (λ bs. IsVerdictOn answers j bs due) is_rest said)

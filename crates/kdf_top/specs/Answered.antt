@@ -3,7 +3,7 @@
 use Rattle.std.specs.Prelude.{◌≡◌, ◌≢◌, ℕ, ◌+◌, ◌≤◌, ◌&&◌, List, [], length, true, false, Option, Some, None, is_some, IfSome}
 use Rattle.kdf_io.specs.Outside.{AddedFront, HasRisen, Advances, NothingLeft}
 use Rattle.kdf_io.specs.Reading.{TakesAtMost}
-use Rattle.kdf_theory.specs.Shown.{Shown}
+use Rattle.kdf_theory.specs.MachineView.{MachineView}
 use Rattle.kdf_top.specs.Answers.{Answers, IsCalledBy, IsDoneBy, IsDoneOver, IsDue, IsDueBy, Wrote, WroteFront, WroteFrontBy, is_done, keeps_by, reads_by}
 use Rattle.kdf_top.specs.Answers.{refusal}
 use Rattle.kdf_command.specs.Commands.{input_of}
@@ -34,7 +34,7 @@ outlet written faults room = record { written = written; faults = faults; room =
 
 -- an answer that is given where such a one is called for, to a command or to words that are none, over a text
 pub record IsGiven (answers : ℕ → ℕ → Type 0) (wanted : Status → Type 0) (c : Option Command) (bytes : List ℕ) (given : Status)
-    (kept : Option Shown) (old new : Outlet) : Type 0 where
+    (kept : Option MachineView) (old new : Outlet) : Type 0 where
   pub answer : Answers wanted given ⊥ (HasRisen old.faults new.faults)
   pub wrote : Wrote c given old.written new.written
   pub machine : is_some kept ≡ (is_done given && keeps_by c)
@@ -82,7 +82,7 @@ abbrev pub ReadsAll : Option Command → Option (List ℕ) → Type 0
 ReadsAll c left = reads_by c ≡ true → NothingLeft left
 
 -- an answer to a command, or to words that are none, over a source and a sink
-pub record IsRun (answers : ℕ → ℕ → Type 0) (c : Option Command) (given : Status) (kept : Option Shown)
+pub record IsRun (answers : ℕ → ℕ → Type 0) (c : Option Command) (given : Status) (kept : Option MachineView)
     (source source' : Inlet) (sink sink' : Outlet) : Type 0 where
   pub answer : IfSome source.left (λ bytes. Answers (IsCalledBy answers c bytes) given
       (HasRisen source.faults source'.faults) (HasRisen sink.faults sink'.faults))

@@ -3,10 +3,10 @@
 use Rattle.std.specs.Prelude.{◌≡◌, ℕ, ◌&&◌, List, [], ◌∷◌, Bool, true, false, Option, Some, None, if◌then◌else◌}
 use Rattle.kdf_io.specs.Outside.{Added, AddedFront}
 use Rattle.kdf_text.specs.Text.{text}
-use Rattle.kdf_usercode.specs.Faults.{Found}
+use Rattle.kdf_usercode.specs.Faults.{FoundFault}
 use Rattle.kdf_job.specs.Front.{front_fault}
 use Rattle.kdf_job.specs.Reading.{job, job_fault}
-use Rattle.kdf_theory.specs.Shown.{Shown}
+use Rattle.kdf_theory.specs.MachineView.{MachineView}
 use Rattle.kdf_command.specs.Commands.{AJob, AReport, ASnapshot, TextForm, command, form_of, input_of, is_read, is_too_long, keeps_machine, limit_by, text_in}
 use Rattle.kdf_top.specs.Deck.{deck_fault}
 use Rattle.kdf_top.specs.Due.{IsText, IsTextFrom, Keeps, job_of, journal_in}
@@ -19,11 +19,11 @@ use Rattle.kdf_top.specs.declared.status.Status.TheVariants as status
 -- ---- the answer that is called for
 
 -- a fault of a line comes before one of a deck
-abbrev pub status_of_decks : Option (ℕ × Found) → Status
+abbrev pub status_of_decks : Option (ℕ × FoundFault) → Status
 status_of_decks None = status.Done
 status_of_decks (Some found) = status.Deck found.0 found.1.fault found.1.place
 
-abbrev pub or_decks : Status → Option (ℕ × Found) → Status
+abbrev pub or_decks : Status → Option (ℕ × FoundFault) → Status
 or_decks status.Done decks = status_of_decks decks
 or_decks called decks = called
 
@@ -165,7 +165,7 @@ abbrev pub IsTrusted : (answers : ℕ → ℕ → Type 0) → Command → List �
 IsTrusted answers c bytes = IsTrustedIn answers (form_of c) bytes
 
 -- nothing is wrong with the text of a command, and this is what it made of it: a text, and the machine that it keeps, or none
-pub record IsMade (answers : ℕ → ℕ → Type 0) (c : Command) (bytes made : List ℕ) (kept : Option Shown) : Type 0 where
+pub record IsMade (answers : ℕ → ℕ → Type 0) (c : Command) (bytes made : List ℕ) (kept : Option MachineView) : Type 0 where
   pub faultless : IsFaultless c bytes
   pub assembles : deck_fault (job_of c bytes).slots ≡ None
   pub trusted : IsTrusted answers c bytes
@@ -173,16 +173,16 @@ pub record IsMade (answers : ℕ → ℕ → Type 0) (c : Command) (bytes made :
   pub text_is : IsTextFrom answers c bytes (journal_in kept) made
 
 -- and that was written
-abbrev pub IsWritten : (answers : ℕ → ℕ → Type 0) → Command → List ℕ → Option Shown → (before after : Option (List ℕ)) → Type 0
+abbrev pub IsWritten : (answers : ℕ → ℕ → Type 0) → Command → List ℕ → Option MachineView → (before after : Option (List ℕ)) → Type 0
 IsWritten answers c bytes kept before after = (made : List ℕ) × IsMade answers c bytes made kept × Added before made after
 
 -- there is a command, which was done over this text
-abbrev pub IsDoneOver : (answers : ℕ → ℕ → Type 0) → Option Command → List ℕ → Option Shown → (before after : Option (List ℕ)) → Type 0
+abbrev pub IsDoneOver : (answers : ℕ → ℕ → Type 0) → Option Command → List ℕ → Option MachineView → (before after : Option (List ℕ)) → Type 0
 IsDoneOver answers None bytes kept before after = ⊥
 IsDoneOver answers (Some c) bytes kept before after = IsWritten answers c bytes kept before after
 
 -- there is a command, which was done over the text that it works on where these bytes are read
-abbrev pub IsDoneBy : (answers : ℕ → ℕ → Type 0) → Option Command → List ℕ → Option Shown → (before after : Option (List ℕ)) → Type 0
+abbrev pub IsDoneBy : (answers : ℕ → ℕ → Type 0) → Option Command → List ℕ → Option MachineView → (before after : Option (List ℕ)) → Type 0
 IsDoneBy answers c bytes kept before after = IsDoneOver answers c (text_by c bytes) kept before after
 
 -- what was written where a command isn't done: the reason, if it is one that is told, and else nothing

@@ -4,18 +4,18 @@ use Rattle.std.specs.Prelude.{◌≡◌, ℕ, ◌*◌, List, [], ◌∷◌, ◌+
 use Rattle.kdf_journal.specs.declared.entry.Entry.{Entry}
 use Rattle.kdf_schedule.specs.Calls.{order_count}
 use Rattle.kdf_schedule.specs.declared.event.Event.{Event}
-use Rattle.kdf_usercode.specs.Faults.{Found}
+use Rattle.kdf_usercode.specs.Faults.{FoundFault}
 use Rattle.kdf_place.specs.Assembled.{assembled, image_words}
 use Rattle.kdf_place.specs.Listing.{absent_listing, listing_text}
 use Rattle.kdf_place.specs.Placement.{Picture}
 use Rattle.kdf_job.specs.Front.{front_job}
-use Rattle.kdf_job.specs.Job.{Job, SlotJob}
+use Rattle.kdf_job.specs.Job.{ShownJob, ShownSlot}
 use Rattle.kdf_job.specs.Reading.{job}
 use Rattle.kdf_job.specs.Slots.{slot_of}
 use Rattle.kdf_processor.specs.Lone.{is_live, lone}
 use Rattle.kdf_processor.specs.State.{State, begin}
 use Rattle.kdf_theory.specs.Served.{IsJournalFor}
-use Rattle.kdf_theory.specs.Shown.{Shown, ShowsSeen}
+use Rattle.kdf_theory.specs.MachineView.{MachineView, ShowsSeen}
 use Rattle.kdf_theory.specs.ByJournal.{flights_of, own, seen_of}
 use Rattle.kdf_text.specs.Text.{end_line, text}
 use Rattle.kdf_check.specs.Report.{IsCheck}
@@ -34,34 +34,34 @@ use Rattle.kdf_command.specs.declared.command.Command.TheVariants.{Run, Save, Re
 
 -- the state of a slot's program that ran alone, with transfers finishing at once and every ask answered 0, for as many orders
 -- as the schedule has
-abbrev pub alone_state : List Event → SlotJob → State
+abbrev pub alone_state : List Event → ShownSlot → State
 alone_state events slot =
     lone (begin (slot_of slot (image_words slot.size slot.deck))) [] (order_count events)
 
-abbrev pub alone_by : List Event → ℕ → Option SlotJob → List ℕ
+abbrev pub alone_by : List Event → ℕ → Option ShownSlot → List ℕ
 alone_by events p None = absent_text p
 alone_by events p (Some slot) = alone_text slot (alone_state events slot)
 
-abbrev pub alone_of : ℕ → Job → List ℕ
+abbrev pub alone_of : ℕ → ShownJob → List ℕ
 alone_of p j = alone_by j.events p (slot_numbered j.slots p)
 
 -- ---- the listing of a deck
 
-abbrev pub listing_of_picture : ℕ → Result Picture Found → List ℕ
+abbrev pub listing_of_picture : ℕ → Result Picture FoundFault → List ℕ
 listing_of_picture p (Ok picture) = listing_text p picture
 listing_of_picture p (Err fault) = absent_listing p
 
-abbrev pub listing_by : ℕ → Option SlotJob → List ℕ
+abbrev pub listing_by : ℕ → Option ShownSlot → List ℕ
 listing_by p None = absent_listing p
 listing_by p (Some slot) = listing_of_picture p (assembled slot.size slot.deck)
 
-abbrev pub listing_of : ℕ → Job → List ℕ
+abbrev pub listing_of : ℕ → ShownJob → List ℕ
 listing_of p j = listing_by p (slot_numbered j.slots p)
 
 -- ---- a job under Director
 
 -- the report of a job whose journal is J: the state of each program is what is seen of its lone run
-abbrev pub report_of : Job → List Entry → List ℕ
+abbrev pub report_of : ShownJob → List Entry → List ℕ
 report_of j J = report_text j J (seen_of (slots_of j) J)
 
 -- the summary of the job that was made from n, and whose journal is J
@@ -83,7 +83,7 @@ stops_text slot address stops = text (watch_line slot address ∷ map stop_line 
 
 -- the stops of a job whose journal is J: the numbers of those orders of the slot's program by itself after which its next one is at
 -- syllable 0 of the word at the address; and then the job's report
-abbrev pub watched_of : (slot address : ℕ) → Job → List Entry → List ℕ
+abbrev pub watched_of : (slot address : ℕ) → ShownJob → List Entry → List ℕ
 watched_of slot address j J = stops_text slot address (stops_of (slots_of j) J slot (6 * address)) ++ report_of j J
 
 -- ---- the verdict on a report that stands after its job
@@ -106,12 +106,12 @@ IsVerdictOf answers bytes due =
 -- ---- all of them
 
 -- the job that a command works on, where this is its text
-abbrev pub job_in : TextForm → List ℕ → Job
+abbrev pub job_in : TextForm → List ℕ → ShownJob
 job_in AJob bytes = job bytes
 job_in AReport bytes = front_job bytes
 job_in ASnapshot bytes = resumed_job bytes
 
-abbrev pub job_of : Command → List ℕ → Job
+abbrev pub job_of : Command → List ℕ → ShownJob
 job_of c bytes = job_in (form_of c) bytes
 
 -- the text that a command makes of this one, where J is the journal of its job; what `check` writes is none that a journal gives
@@ -135,7 +135,7 @@ IsTextFrom answers c bytes J due = IsTextBy answers (text_from c bytes J) bytes 
 
 -- the journal that a command's text is made from: where it runs its job under Director it is the job's, legal and whole, and true
 -- for the service; and where it doesn't, it is empty
-abbrev pub IsJournalWhere : (answers : ℕ → ℕ → Type 0) → Bool → Job → List Entry → Type 0
+abbrev pub IsJournalWhere : (answers : ℕ → ℕ → Type 0) → Bool → ShownJob → List Entry → Type 0
 IsJournalWhere answers true j J = IsJournalFor answers (slots_of j) j.events J
 IsJournalWhere answers false j J = J ≡ []
 
@@ -150,7 +150,7 @@ IsText answers c bytes due = (J : List Entry) × IsJournalOf answers c bytes J �
 
 -- the machine is that of a job: its journal is legal and whole, and true for the service, what it shows is what is seen of the
 -- lone runs, and a program that isn't live has no transfer in flight
-pub record IsMachineOf (answers : ℕ → ℕ → Type 0) (j : Job) (m : Shown) : Type 0 where
+pub record IsMachineOf (answers : ℕ → ℕ → Type 0) (j : ShownJob) (m : MachineView) : Type 0 where
   pub slots : m.slots ≡ slots_of j
   pub journal : IsJournalFor answers m.slots j.events m.journal
   pub seen : ShowsSeen m
@@ -158,11 +158,11 @@ pub record IsMachineOf (answers : ℕ → ℕ → Type 0) (j : Job) (m : Shown) 
       → (d : ℕ) → flights_of m.slots m.journal p d ≡ None
 
 -- a command that runs its job under Director keeps its machine, and another keeps none
-abbrev pub Keeps : (answers : ℕ → ℕ → Type 0) → Command → List ℕ → Option Shown → Type 0
+abbrev pub Keeps : (answers : ℕ → ℕ → Type 0) → Command → List ℕ → Option MachineView → Type 0
 Keeps answers c bytes None = keeps_machine c ≡ false
 Keeps answers c bytes (Some m) = (keeps_machine c ≡ true) × IsMachineOf answers (job_of c bytes) m
 
 -- the journal of the machine that is kept, or the empty one
-abbrev pub journal_in : Option Shown → List Entry
+abbrev pub journal_in : Option MachineView → List Entry
 journal_in None = []
 journal_in (Some m) = m.journal

@@ -7,7 +7,7 @@ use Rattle.kdf_job.specs.Shows.{shown_job}
 use Rattle.kdf_job.specs.declared.job.TheConstants.{TEXT_LIMIT}
 use Rattle.kdf_theory.specs.Follows.{entries_in}
 use Rattle.kdf_theory.specs.Served.{IsJournalFor}
-use Rattle.kdf_theory.specs.Shown.{Shown, ShowsSeen}
+use Rattle.kdf_theory.specs.MachineView.{MachineView, ShowsSeen}
 use Rattle.kdf_top.specs.Loaded.{IsLoaded, slots_of}
 use Rattle.kdf_top.specs.Snapshots.{IsSnapshot, line_after_job, parts, resumed_job, sealed_lines}
 use Rattle.kdf_top.specs.declared.resuming.Snapshot.{Snapshot}
@@ -25,7 +25,7 @@ pub record IsRead (bytes : List ℕ) (s : Snapshot) : Type 0 where
   pub loaded : IsLoaded (resumed_job bytes) s.job s.images.items
 
 -- the machine has run the job at the front, its journal is that of the snapshot, and it has room for the further events
-pub record IsSaved (answers : ℕ → ℕ → Type 0) (bytes : List ℕ) (s : Snapshot) (m : Shown) : Type 0 where
+pub record IsSaved (answers : ℕ → ℕ → Type 0) (bytes : List ℕ) (s : Snapshot) (m : MachineView) : Type 0 where
   pub slots : m.slots ≡ slots_of (shown_job s.job)
   pub journal : IsJournalFor answers m.slots (take s.first (shown_job s.job).events) m.journal
   pub seen : ShowsSeen m
@@ -33,7 +33,7 @@ pub record IsSaved (answers : ℕ → ℕ → Type 0) (bytes : List ℕ) (s : Sn
   pub room : sum_by entries_in (drop s.first (shown_job s.job).events) ≤ m.room
 
 -- the machine has run the whole job
-pub record HasRun (answers : ℕ → ℕ → Type 0) (s : Snapshot) (m : Shown) : Type 0 where
+pub record HasRun (answers : ℕ → ℕ → Type 0) (s : Snapshot) (m : MachineView) : Type 0 where
   pub slots : m.slots ≡ slots_of (shown_job s.job)
   pub journal : IsJournalFor answers m.slots (shown_job s.job).events m.journal
   pub seen : ShowsSeen m

@@ -3,7 +3,7 @@
 use Rattle.std.specs.Prelude.{◌≡◌, ℕ, List, [], ◌∷◌, ◌++◌, None, codes}
 use Rattle.kdf_text.specs.Lines.{lines}
 use Rattle.kdf_schedule.specs.Calls.{calls_made}
-use Rattle.kdf_job.specs.Job.{Job}
+use Rattle.kdf_job.specs.Job.{ShownJob}
 use Rattle.kdf_job.specs.More.{more_events, more_fault}
 use Rattle.kdf_job.specs.Reading.{job, job_fault}
 use Rattle.kdf_top.specs.Answers.{IsCalled, IsFaultless, IsTrusted}
@@ -14,12 +14,12 @@ use Rattle.kdf_top.specs.declared.status.Status.{Status}
 use Rattle.kdf_top.specs.declared.status.Status.TheVariants.{Done}
 
 -- further lines of a job's schedule, none of which is faulty, whichever number the first has
-abbrev pub IsFurther : Job → List ℕ → Type 0
+abbrev pub IsFurther : ShownJob → List ℕ → Type 0
 IsFurther j more = more_fault 1 j.events more ≡ None
 
 -- the text of a whole run: a job without a fault, with these slots, that makes the calls of the job and then those of the further
 -- lines, one by one; so an event of orders may be cut at any of its calls
-pub record IsWholeRun (j : Job) (more whole : List ℕ) : Type 0 where
+pub record IsWholeRun (j : ShownJob) (more whole : List ℕ) : Type 0 where
   pub faultless : job_fault whole ≡ None
   pub slots : (job whole).slots ≡ j.slots
   pub calls : calls_made (job whole).events ≡ calls_made (j.events ++ more_events more)
@@ -31,7 +31,7 @@ GoesOnWith bytes more whole =
 
 -- what `resume` makes of a text is the run of this job: no line and no deck is faulty, the snapshot is that of its job, and so Done
 -- is called for, and nothing else
-pub record IsResumed (answers : ℕ → ℕ → Type 0) (j : Job) (text : List ℕ) : Type 0 where
+pub record IsResumed (answers : ℕ → ℕ → Type 0) (j : ShownJob) (text : List ℕ) : Type 0 where
   pub faultless : IsFaultless Resume text
   pub told : job_of Resume text ≡ j
   pub assembles : deck_fault (job_of Resume text).slots ≡ None

@@ -7,7 +7,7 @@ use Rattle.kdf_text.specs.Text.{text}
 use Rattle.kdf_text.specs.declared.lines.TheConstants.{LINE_END}
 use Rattle.kdf_journal.specs.declared.entry.Entry.{Entry}
 use Rattle.kdf_job.specs.Front.{front, front_fault, front_job, front_length}
-use Rattle.kdf_job.specs.Job.{Job}
+use Rattle.kdf_job.specs.Job.{ShownJob}
 use Rattle.kdf_job.specs.More.{joined, more_events, more_fault}
 use Rattle.kdf_job.specs.Reading.{job}
 use Rattle.kdf_job.specs.declared.fault.JobFault.{JobFault}
@@ -16,7 +16,7 @@ use Rattle.kdf_theory.specs.Served.{IsJournalFor}
 use Rattle.kdf_theory.specs.ByJournal.{seen_of}
 use Rattle.kdf_report.specs.Text.{journal_lines, sections_lines}
 use Rattle.kdf_snapshot.specs.Differs.{IsDifference}
-use Rattle.kdf_snapshot.specs.Snapshot.{Parts, end_line, journal_line, parts_of, seal_line}
+use Rattle.kdf_snapshot.specs.Snapshot.{ShownParts, end_line, journal_line, parts_of, seal_line}
 use Rattle.kdf_snapshot.specs.Stores.{store_lines}
 use Rattle.kdf_snapshot.specs.declared.fault.SnapshotFault.{SnapshotFault}
 use Rattle.kdf_snapshot.specs.declared.fault.SnapshotFault.TheVariants.{JournalDiffers, SealDiffers}
@@ -35,19 +35,19 @@ abbrev pub ended : List ℕ → List ℕ
 ended bytes = if is_ended bytes then bytes else bytes ++ LINE_END ∷ []
 
 -- what is sealed of a job, from the state of the program of each number: the sections of all slots, and the words that aren't zero
-abbrev pub seal_lines : Job → (ℕ → State) → List (List ℕ)
+abbrev pub seal_lines : ShownJob → (ℕ → State) → List (List ℕ)
 seal_lines j states = sections_lines j states ++ store_lines j states
 
 -- with the line that ends a snapshot
-abbrev pub sealed_with : Job → (ℕ → State) → List ℕ
+abbrev pub sealed_with : ShownJob → (ℕ → State) → List ℕ
 sealed_with j states = text (seal_lines j states ++ end_line ∷ [])
 
 -- the snapshot of a job of these bytes: them, the journal, and what is sealed
-abbrev pub snapshot_with : List ℕ → Job → List Entry → (ℕ → State) → List ℕ
+abbrev pub snapshot_with : List ℕ → ShownJob → List Entry → (ℕ → State) → List ℕ
 snapshot_with bytes j J states = ended bytes ++ text (journal_line ∷ journal_lines J ++ seal_line ∷ []) ++ sealed_with j states
 
 -- where the journal is J, the state of each program is what is seen of its lone run
-abbrev pub sealed_text : Job → List Entry → List ℕ
+abbrev pub sealed_text : ShownJob → List Entry → List ℕ
 sealed_text j J = sealed_with j (seen_of (slots_of j) J)
 
 abbrev pub snapshot_of : List ℕ → List Entry → List ℕ
@@ -63,30 +63,30 @@ abbrev pub line_after_job : List ℕ → ℕ
 line_after_job bytes = length (lines (front bytes)) + 1
 
 -- its parts, or the first fault of its lines
-abbrev pub parts_in : List ℕ → Result Parts (SnapshotFault × ℕ)
+abbrev pub parts_in : List ℕ → Result ShownParts (SnapshotFault × ℕ)
 parts_in bytes = parts_of (line_after_job bytes) (after_job bytes)
 
 -- where there is a fault, there are none
-abbrev pub parts_or_none : Result Parts (SnapshotFault × ℕ) → Parts
+abbrev pub parts_or_none : Result ShownParts (SnapshotFault × ℕ) → ShownParts
 parts_or_none (Ok parts) = parts
 parts_or_none (Err found) = record { entries = []; seal_from = 0; seal_to = 0; more_from = 0; more_line = 0 }
 
-abbrev pub parts : List ℕ → Parts
+abbrev pub parts : List ℕ → ShownParts
 parts bytes = parts_or_none (parts_in bytes)
 
 -- the lines after SEAL up to ENDSNAPSHOT, and with it
-abbrev pub sealed_lines : List ℕ → Parts → List (List ℕ)
+abbrev pub sealed_lines : List ℕ → ShownParts → List (List ℕ)
 sealed_lines bytes p = lines (take (p.more_from - p.seal_from) (drop p.seal_from (after_job bytes)))
 
 -- the further lines of the schedule
-abbrev pub further : List ℕ → Parts → List ℕ
+abbrev pub further : List ℕ → ShownParts → List ℕ
 further bytes p = drop p.more_from (after_job bytes)
 
 -- the job whose schedule is that of the front job, and the further lines after it
-abbrev pub resumed_with : List ℕ → Parts → Job
+abbrev pub resumed_with : List ℕ → ShownParts → ShownJob
 resumed_with bytes p = joined (front_job bytes) (more_events (further bytes p))
 
-abbrev pub resumed_job : List ℕ → Job
+abbrev pub resumed_job : List ℕ → ShownJob
 resumed_job bytes = resumed_with bytes (parts bytes)
 
 -- no line of it is faulty: not of the job, nor of the snapshot, nor of the further lines
@@ -100,7 +100,7 @@ abbrev pub status_of_line : Option (JobFault × ℕ) → Status
 status_of_line None = status.Done
 status_of_line (Some found) = status.Job found.0 found.1
 
-abbrev pub status_of_parts : List ℕ → Result Parts (SnapshotFault × ℕ) → Status
+abbrev pub status_of_parts : List ℕ → Result ShownParts (SnapshotFault × ℕ) → Status
 status_of_parts bytes (Err found) = status.Snapshot found.0 found.1
 status_of_parts bytes (Ok p) = status_of_line (more_fault p.more_line (front_job bytes).events (further bytes p))
 

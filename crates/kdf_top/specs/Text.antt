@@ -2,15 +2,15 @@
 use Rattle.std.specs.Prelude.{ℕ, List, ◌++◌, codes, decimal}
 use Rattle.kdf_command.specs.declared.command.TheConstants.{USAGE}
 use Rattle.kdf_job.specs.declared.fault.JobFault.{JobFault}
-use Rattle.kdf_job.specs.Faults.{name_of}
+use Rattle.kdf_job.specs.Faults.{job_fault_name}
 use Rattle.kdf_usercode.specs.declared.fault.DeckFault.{DeckFault}
-use Rattle.kdf_usercode.specs.Faults.{name_of as deck_fault_name}
+use Rattle.kdf_usercode.specs.Faults.{deck_fault_name}
 use Rattle.kdf_snapshot.specs.declared.fault.SnapshotFault.{SnapshotFault}
-use Rattle.kdf_snapshot.specs.Faults.{name_of as snapshot_fault_name}
+use Rattle.kdf_snapshot.specs.Faults.{snapshot_fault_name}
 
 -- the line that tells a fault of the job
 abbrev pub job_fault_line : JobFault → ℕ → List ℕ
-job_fault_line fault line = codes "JOB " ++ name_of fault ++ codes " " ++ decimal line
+job_fault_line fault line = codes "JOB " ++ job_fault_name fault ++ codes " " ++ decimal line
 
 -- the line that tells a fault of a deck
 abbrev pub deck_fault_line : ℕ → DeckFault → ℕ → List ℕ

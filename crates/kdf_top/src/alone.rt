@@ -3,7 +3,8 @@ ghost use Rattle.std.specs.Prelude.{◌≡◌, ◌≤◌, [], None, length, map,
 ghost use Rattle.kdf_schedule.specs.Calls.{order_count, orders_in};
 ghost use Rattle.kdf_place.specs.Assembled.{image_words};
 ghost use Rattle.kdf_job.specs.Limits.{most_orders};
-ghost use Rattle.kdf_job.specs.Reading.{job as job_of, job_fault};
+ghost use Rattle.kdf_job.specs.Reading.{job_fault};
+ghost use Rattle.kdf_job.specs.Reading as reading;
 ghost use Rattle.kdf_job.specs.Shows.{shown_job, shown_slot};
 ghost use Rattle.kdf_job.specs.Slots.{slot_of};
 ghost use Rattle.kdf_job.specs.WellFormed.{IsJob, IsSlot};
@@ -32,8 +33,8 @@ use std::alloc::{AllocError, Global};
 pub fn alone(alloc: Global, job_bytes: &[u8], p: u8) -> Result<Vec<u8>, MakeError>
     requires { length job_bytes.now ≤ TEXT_LIMIT }
     ensures faultless { OnOk result (job_fault job_bytes.now ≡ None) }
-    ensures assembles { OnOk result (deck_fault (job_of job_bytes.now).slots ≡ None) }
-    ensures text { IfOk result (λ text. text.items ≡ alone_of p (job_of job_bytes.now)) }
+    ensures assembles { OnOk result (deck_fault (reading.job job_bytes.now).slots ≡ None) }
+    ensures text { IfOk result (λ text. text.items ≡ alone_of p (reading.job job_bytes.now)) }
     ensures reason { IfErr result (IsReason (λ s. s ≡ status_of_job job_bytes.now)) }
 {
     let (job, images) = load(alloc, job_bytes)?;

@@ -5,7 +5,7 @@ ghost use Rattle.kdf_job.specs.Shows.{shown_job};
 ghost use Rattle.kdf_job.specs.WellFormed.{IsJob};
 ghost use Rattle.kdf_job.specs.declared.job.TheConstants.{TEXT_LIMIT};
 ghost use Rattle.kdf_check.specs.Report.{IsCheck};
-ghost use Rattle.kdf_check.specs.declared.verdict.Verdict.{Verdict as Judged};
+ghost use Rattle.kdf_check.specs.declared.verdict.Verdict.{Verdict};
 ghost use Rattle.kdf_service.specs.Rules.{IsService};
 ghost use Rattle.kdf_text.specs.Text.{Adds, text};
 ghost use Rattle.kdf_top.specs.Answered.{IsReason};
@@ -57,7 +57,7 @@ fn verdict_on<F: Fn(u64) -> u64>(
     requires job { IsJob (shown_job job.now) }
     requires images { HasImages (shown_job job.now).slots images.now }
     requires within { length report.now ≤ TEXT_LIMIT }
-    ensures text { IfOk result (λ due. (v : Judged)
+    ensures text { IfOk result (λ due. (v : Verdict)
         × IsCheck (F.post service.now) (slots_of (shown_job job.now)) (shown_job job.now).events report.now v
         × (due.items ≡ text (verdict_lines v))) }
     ensures memory { IfErr result (λ e. e ≡ Memory) }

@@ -1,6 +1,6 @@
 //! Laws of the definitions, each the contract of a function that does nothing.
 ghost use Rattle.std.specs.Prelude.{◌≡◌, ℕ, ◌≤◌, List, [], ◌∷◌, ◌++◌, None, Option, codes, length};
-ghost use Rattle.kdf_theory.specs.Shown.{Shown};
+ghost use Rattle.kdf_theory.specs.MachineView.{MachineView};
 ghost use Rattle.kdf_job.specs.More.{joined, more_events};
 ghost use Rattle.kdf_job.specs.Reading.{job, job_fault};
 ghost use Rattle.kdf_service.specs.Rules.{IsService};
@@ -20,31 +20,31 @@ ghost use Rattle.kdf_top.specs.declared.status.Status.TheVariants as status;
 /// job with the further lines in place of its last line.
 pub fn saved_again<F: Fn(u64) -> u64>()
     ensures resumed { (rule : F) → IsService (F.pre rule) (F.post rule) → (bytes saved more : List ℕ)
-        (kept : Option Shown) → IsMade (F.post rule) command.Save bytes saved kept → IsFurther (job bytes) more →
+        (kept : Option MachineView) → IsMade (F.post rule) command.Save bytes saved kept → IsFurther (job bytes) more →
         IsResumed (F.post rule) (joined (job bytes) (more_events more)) (saved ++ more) }
     ensures called { (rule : F) → IsService (F.pre rule) (F.post rule) → (bytes saved more : List ℕ)
-        (kept : Option Shown) → IsMade (F.post rule) command.Save bytes saved kept → IsFurther (job bytes) more →
+        (kept : Option MachineView) → IsMade (F.post rule) command.Save bytes saved kept → IsFurther (job bytes) more →
         length (saved ++ more) ≤ text_limit →
         IsCalledFor (F.post rule) (codes "resume" ∷ []) (saved ++ more) status.Done
         × ((called : Status) → IsCalledFor (F.post rule) (codes "resume" ∷ []) (saved ++ more) called →
         called ≡ status.Done) }
     ensures run { (rule : F) → IsService (F.pre rule) (F.post rule) → (bytes saved more whole report : List ℕ)
-        (kept machine : Option Shown) → IsMade (F.post rule) command.Save bytes saved kept →
+        (kept machine : Option MachineView) → IsMade (F.post rule) command.Save bytes saved kept →
         IsFurther (job bytes) more → IsWholeRun (job bytes) more whole →
         IsMade (F.post rule) command.Run whole report machine →
         IsMade (F.post rule) command.Resume (saved ++ more) report machine }
     ensures resume { (rule : F) → IsService (F.pre rule) (F.post rule) → (bytes saved more whole report : List ℕ)
-        (kept machine : Option Shown) → IsMade (F.post rule) command.Save bytes saved kept →
+        (kept machine : Option MachineView) → IsMade (F.post rule) command.Save bytes saved kept →
         IsFurther (job bytes) more → IsWholeRun (job bytes) more whole →
         IsMade (F.post rule) command.Resume (saved ++ more) report machine →
         IsMade (F.post rule) command.Run whole report machine }
     ensures report { (rule : F) → IsService (F.pre rule) (F.post rule)
-        → (bytes saved more whole report other : List ℕ) (kept machine second : Option Shown) →
+        → (bytes saved more whole report other : List ℕ) (kept machine second : Option MachineView) →
         IsMade (F.post rule) command.Save bytes saved kept → IsFurther (job bytes) more →
         IsWholeRun (job bytes) more whole → IsMade (F.post rule) command.Run whole report machine →
         IsMade (F.post rule) command.Resume (saved ++ more) other second → other ≡ report }
     ensures due { (rule : F) → IsService (F.pre rule) (F.post rule) → (bytes saved more whole due : List ℕ)
-        (kept : Option Shown) → IsMade (F.post rule) command.Save bytes saved kept →
+        (kept : Option MachineView) → IsMade (F.post rule) command.Save bytes saved kept →
         IsFurther (job bytes) more → IsWholeRun (job bytes) more whole → length (saved ++ more) ≤ text_limit →
         length whole ≤ job_limit → IsDueFor (F.post rule) (codes "run" ∷ []) whole due →
         IsDueFor (F.post rule) (codes "resume" ∷ []) (saved ++ more) due }

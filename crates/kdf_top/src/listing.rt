@@ -1,6 +1,7 @@
 //! The listing of a deck.
 ghost use Rattle.std.specs.Prelude.{◌≡◌, ◌≤◌, None, length, IfErr, IfOk, OnOk};
-ghost use Rattle.kdf_job.specs.Reading.{job as job_of, job_fault};
+ghost use Rattle.kdf_job.specs.Reading.{job_fault};
+ghost use Rattle.kdf_job.specs.Reading as reading;
 ghost use Rattle.kdf_job.specs.Shows.{shown_job};
 ghost use Rattle.kdf_job.specs.WellFormed.{IsJob};
 ghost use Rattle.kdf_job.specs.declared.job.TheConstants.{TEXT_LIMIT};
@@ -21,8 +22,8 @@ use std::alloc::{AllocError, Global};
 pub fn list(alloc: Global, job_bytes: &[u8], p: u8) -> Result<Vec<u8>, MakeError>
     requires { length job_bytes.now ≤ TEXT_LIMIT }
     ensures faultless { OnOk result (job_fault job_bytes.now ≡ None) }
-    ensures assembles { OnOk result (deck_fault (job_of job_bytes.now).slots ≡ None) }
-    ensures text { IfOk result (λ text. text.items ≡ listing_of p (job_of job_bytes.now)) }
+    ensures assembles { OnOk result (deck_fault (reading.job job_bytes.now).slots ≡ None) }
+    ensures text { IfOk result (λ text. text.items ≡ listing_of p (reading.job job_bytes.now)) }
     ensures reason { IfErr result (IsReason (λ s. s ≡ status_of_job job_bytes.now)) }
 {
     let (job, images) = load(alloc, job_bytes)?;

@@ -25,18 +25,18 @@ use kdf_service::Service;
 use std::alloc::{AllocError, Global};
 
 /// What a command made of its text: the text that it writes, and the machine that it keeps.
-pub struct Made {
+pub struct Produced {
     pub text: Vec<u8>,
     pub machine: Option<Machine>,
 }
 
 /// What a command makes of its text. Where it runs a job under Director, the service answers the programs.
-pub fn make<F: Fn(u64) -> u64>(
+pub fn produce<F: Fn(u64) -> u64>(
     alloc: Global,
     command: Command,
     text: Vec<u8>,
     service: &Service<F>,
-) -> Result<Made, MakeError>
+) -> Result<Produced, MakeError>
     requires service { IsService (F.pre service.now) (F.post service.now) }
     requires within { length text.items ≤ TEXT_LIMIT }
     requires address { HasAddress command }
@@ -44,7 +44,7 @@ pub fn make<F: Fn(u64) -> u64>(
     ensures reason { IfErr result (IsReason (IsCalled (F.post service.now) command text.items)) }
 {
     match command {
-        Command::Run => run(alloc, &text, service),
+        Command::Run => report_run(alloc, &text, service),
         Command::Save => save(alloc, &text, service),
         Command::Resume => resume(alloc, text, service),
         Command::Check => without_machine(check(alloc, &text, service)),
@@ -56,11 +56,11 @@ pub fn make<F: Fn(u64) -> u64>(
 }
 
 /// Runs a job, and makes its report.
-fn run<F: Fn(u64) -> u64>(
+fn report_run<F: Fn(u64) -> u64>(
     alloc: Global,
     job_bytes: &[u8],
     service: &Service<F>,
-) -> Result<Made, MakeError>
+) -> Result<Produced, MakeError>
     requires service { IsService (F.pre service.now) (F.post service.now) }
     requires within { length job_bytes.now ≤ TEXT_LIMIT }
     ensures made { IfOk result (λ made. IsMade (F.post service.now) command.Run job_bytes.now made.text.items
@@ -78,7 +78,7 @@ fn save<F: Fn(u64) -> u64>(
     alloc: Global,
     job_bytes: &[u8],
     service: &Service<F>,
-) -> Result<Made, MakeError>
+) -> Result<Produced, MakeError>
     requires service { IsService (F.pre service.now) (F.post service.now) }
     requires within { length job_bytes.now ≤ TEXT_LIMIT }
     ensures made { IfOk result (λ made. IsMade (F.post service.now) command.Save job_bytes.now made.text.items
@@ -97,7 +97,7 @@ fn sum<F: Fn(u64) -> u64>(
     n: u16,
     job_bytes: &[u8],
     service: &Service<F>,
-) -> Result<Made, MakeError>
+) -> Result<Produced, MakeError>
     requires service { IsService (F.pre service.now) (F.post service.now) }
     requires within { length job_bytes.now ≤ TEXT_LIMIT }
     ensures made { IfOk result (λ made. IsMade (F.post service.now) (command.Make n) job_bytes.now made.text.items
@@ -117,7 +117,7 @@ fn watch<F: Fn(u64) -> u64>(
     address: u16,
     job_bytes: &[u8],
     service: &Service<F>,
-) -> Result<Made, MakeError>
+) -> Result<Produced, MakeError>
     requires service { IsService (F.pre service.now) (F.post service.now) }
     requires within { length job_bytes.now ≤ TEXT_LIMIT }
     requires address { address < PROGRAM_WORDS }
@@ -133,13 +133,13 @@ fn watch<F: Fn(u64) -> u64>(
 }
 
 /// A text without a machine.
-fn without_machine(text: Result<Vec<u8>, MakeError>) -> Result<Made, MakeError>
+fn without_machine(text: Result<Vec<u8>, MakeError>) -> Result<Produced, MakeError>
     ensures text { IfOk result (λ made. text ≡ Ok made.text) }
     ensures machine { IfOk result (λ made. made.machine ≡ None) }
     ensures reason { IfErr result (λ e. text ≡ Err e) }
 {
     match text {
-        Ok(text) => Ok(Made {
+        Ok(text) => Ok(Produced {
             text,
             machine: None,
         }),
@@ -148,13 +148,16 @@ fn without_machine(text: Result<Vec<u8>, MakeError>) -> Result<Made, MakeError>
 }
 
 /// A text with its machine, which is given up where there was no memory for the text.
-pub fn with_machine(text: Result<Vec<u8>, AllocError>, machine: Machine) -> Result<Made, MakeError>
+pub fn with_machine(
+    text: Result<Vec<u8>, AllocError>,
+    machine: Machine,
+) -> Result<Produced, MakeError>
     ensures text { IfOk result (λ made. text ≡ Ok made.text) }
     ensures machine { IfOk result (λ made. made.machine ≡ Some machine) }
     ensures memory { IfErr result (λ e. e ≡ Memory) }
 {
     match text {
-        Ok(text) => Ok(Made {
+        Ok(text) => Ok(Produced {
             text,
             machine: Some(machine),
         }),

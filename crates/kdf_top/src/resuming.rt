@@ -1,6 +1,6 @@
 //! A run that goes on from a snapshot.
 ghost use Rattle.std.specs.Prelude.{◌≡◌, ◌-◌, ◌≤◌, ℕ, List, drop, IfErr, IfOk, OnOk, length, take};
-ghost use Rattle.kdf_theory.specs.Shown.{ShowsSeen};
+ghost use Rattle.kdf_theory.specs.MachineView.{ShowsSeen};
 ghost use Rattle.kdf_job.specs.Shows.{shown_job};
 ghost use Rattle.kdf_job.specs.declared.job.TheConstants.{TEXT_LIMIT};
 ghost use Rattle.kdf_service.specs.Rules.{IsService};
@@ -15,7 +15,7 @@ ghost use Rattle.kdf_top.specs.declared.status.Status.TheVariants as status;
 use crate::Status;
 use crate::decks::assemble_decks;
 use crate::differing::first_other_line;
-use crate::making::{Made, with_machine};
+use crate::making::{Produced, with_machine};
 use crate::reason::MakeError;
 use crate::saving::sealed_text;
 use kdf_director::{Machine, follow_on};
@@ -67,7 +67,7 @@ pub fn resume<F: Fn(u64) -> u64>(
     alloc: Global,
     text: Vec<u8>,
     service: &Service<F>,
-) -> Result<Made, MakeError>
+) -> Result<Produced, MakeError>
     ghost bytes: { List ℕ }
     requires service { IsService (F.pre service.now) (F.post service.now) }
     requires text { text.items ≡ bytes }

@@ -1,6 +1,6 @@
 //! The snapshot of a job that ran.
 ghost use Rattle.std.specs.Prelude.{◌≡◌, All, IfOk, map};
-ghost use Rattle.kdf_theory.specs.Shown.{state_at};
+ghost use Rattle.kdf_theory.specs.MachineView.{state_at};
 ghost use Rattle.kdf_job.specs.Shows.{shown_job, shown_slot};
 ghost use Rattle.kdf_report.specs.MadeFrom.{HasProgram};
 ghost use Rattle.kdf_top.specs.Snapshots.{ended, is_ended, sealed_with, snapshot_with};

@@ -10,10 +10,10 @@ ghost use Rattle.kdf_top.specs.Answers.{Answers, IsCalled, IsCalledFor, IsDoneBy
 ghost use Rattle.kdf_command.specs.Commands.{HasAddress, command, input_of, is_command, is_too_long};
 ghost use Rattle.kdf_top.specs.Deck.{deck_fault};
 ghost use Rattle.kdf_top.specs.Due.{job_of};
-ghost use Rattle.kdf_command.specs.declared.command.Command.{Command as Asked};
+ghost use Rattle.kdf_command.specs.declared.command.Command.{Command};
 ghost use Rattle.kdf_command.specs.declared.command.Input.TheVariants as input;
 
-use crate::making::{Made, make};
+use crate::making::{Produced, produce};
 use crate::reason::MakeError;
 use crate::refusal::refusal_text;
 use crate::{Outcome, Status};
@@ -47,7 +47,7 @@ pub fn run_with<S: Source, K: Sink, F: Fn(u64) -> u64>(
 
     // Where nothing fails, a command over a text without a fault, no deck of whose job has one, is done, and other words are told how
     // to use the program; or there was no memory. A snapshot has to be that of its job, too.
-    ensures complete { (c : Asked) → command (map string_bytes words.now) ≡ Some c
+    ensures complete { (c : Command) → command (map string_bytes words.now) ≡ Some c
         → IfSome (S.left source.old) (λ bytes. is_too_long (input_of c) bytes ≡ false
         → IsFaultless c (job_text c bytes) → deck_fault (job_of c (job_text c bytes)).slots ≡ None
         → IsTrusted (F.post service.now) c (job_text c bytes)
@@ -250,8 +250,8 @@ fn answer_text<K: Sink, F: Fn(u64) -> u64>(
         (outlet (K.written sink.old) (K.faults sink.old) (K.room sink.old))
         (outlet (K.written sink.new) (K.faults sink.new) (K.room sink.new)) }
 {
-    match make(alloc, command, text, service) {
-        Ok(Made { text: due, machine }) => match write_all(sink, &due) {
+    match produce(alloc, command, text, service) {
+        Ok(Produced { text: due, machine }) => match write_all(sink, &due) {
             Ok(()) => Outcome {
                 status: Status::Done,
                 machine,

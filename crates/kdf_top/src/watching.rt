@@ -4,7 +4,7 @@ ghost use Rattle.kdf_text.specs.Text.{Adds};
 ghost use Rattle.kdf_job.specs.Shows.{shown_job, shown_slot};
 ghost use Rattle.kdf_job.specs.WellFormed.{IsJob};
 ghost use Rattle.kdf_theory.specs.Served.{IsJournalFor};
-ghost use Rattle.kdf_theory.specs.Shown.{ShowsSeen, state_at};
+ghost use Rattle.kdf_theory.specs.MachineView.{ShowsSeen, state_at};
 ghost use Rattle.kdf_report.specs.MadeFrom.{HasProgram};
 ghost use Rattle.kdf_report.specs.Text.{report_text};
 ghost use Rattle.kdf_service.specs.Rules.{IsService};

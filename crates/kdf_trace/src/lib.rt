@@ -12,5 +12,5 @@ pub use flights::{Flight, write_flights};
 pub use holds::{Ask, HeldBy, Hold, Loan, write_asks, write_holds, write_loans};
 pub use pasts::{Past, keep_last, orders_of_live};
 pub use retrace::{Before, Retrace};
-pub use story::{Story, World, is_none_free, looks_for};
+pub use story::{Backdrop, Story, is_none_free, looks_for};
 pub use tail::follow_noting;

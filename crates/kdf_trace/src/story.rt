@@ -15,7 +15,7 @@ use std::alloc::{AllocError, Global};
 
 /// What doesn't change in a run: its decks, its pool, and how many orders each program obeys that is live at the end and whose last orders are to be noted.
 #[derive(Clone, Copy)]
-pub struct World<'a, 'b> {
+pub struct Backdrop<'a, 'b> {
     pub decks: &'a [Deck<'b>],
     pub pool: &'a [(u8, Kind)],
     pub live: [u32; 4],
@@ -105,7 +105,7 @@ impl Story {
         call: u32,
         entry: Entry,
         retrace: &mut Retrace,
-        world: World<'_, '_>,
+        world: Backdrop<'_, '_>,
         service: &Service<F>,
     ) -> Result<Option<Unlocked>, AllocError>
         requires { IsService (F.pre service.now) (F.post service.now) }
@@ -262,7 +262,7 @@ impl Story {
         call: u32,
         entry: Entry,
         retrace: &mut Retrace,
-        world: World<'_, '_>,
+        world: Backdrop<'_, '_>,
         service: &Service<F>,
     ) -> Result<(), AllocError>
         requires { IsService (F.pre service.now) (F.post service.now) }
@@ -427,7 +427,7 @@ fn begun<F: Fn(u64) -> u64>(
     d: u8,
     k: u32,
     retrace: &mut Retrace,
-    world: World<'_, '_>,
+    world: Backdrop<'_, '_>,
     service: &Service<F>,
 ) -> Result<Flight, AllocError>
     requires { IsService (F.pre service.now) (F.post service.now) }

@@ -7,7 +7,7 @@ ghost use Rattle.kdf_schedule.specs.declared.event.Event.TheVariants.{Orders};
 ghost use Rattle.kdf_service.specs.Rules.{IsService};
 ghost use Rattle.kdf_theory.specs.Follows.{IsRising, entries_in};
 ghost use Rattle.kdf_theory.specs.Served.{IsJournalFor};
-ghost use Rattle.kdf_theory.specs.Shown.{ShowsSeen};
+ghost use Rattle.kdf_theory.specs.MachineView.{ShowsSeen};
 
 use crate::pasts::{Past, note};
 use kdf_director::{Machine, follow, follow_on};

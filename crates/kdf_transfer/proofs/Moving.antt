@@ -6,13 +6,13 @@ use Rattle.std.proofs.lemmas.Bool.{cases_Bool}
 use Rattle.std.proofs.lemmas.List.{drop_min, drop-drop, take_min}
 use Rattle.kdf_lockout.specs.Groups.{Lent, with_lent_word}
 use Rattle.kdf_transfer.specs.declared.order.TransferOrder.{TransferOrder}
-use Rattle.kdf_transfer.specs.Devices.{Fixture, Progress}
+use Rattle.kdf_transfer.specs.Devices.{Fixture, DeviceProgress}
 use Rattle.kdf_transfer.specs.AtOnce.{is_input, is_output, given, offered, place_of, stopped, addressed}
-use Rattle.kdf_transfer.specs.InFlight.{Motion, area_words, all_words, words_of, total_of, moves_of, put_words, lease_by, moved_by}
+use Rattle.kdf_transfer.specs.InFlight.{Motion, area_words, all_words, words_in_flight, total_of, moves_of, put_words, lease_by, moved_by}
 use Rattle.kdf_transfer.proofs.Addresses.{addressed-drop, length-addressed, take_two}
 
 -- the words of an input order don't depend on the lease
-offer-lease : (o : TransferOrder) (first last : ℕ) (l l' : Option Lent) (f : Fixture) (p : Progress) → (is_input o ≡ false → l ≡ l')
+offer-lease : (o : TransferOrder) (first last : ℕ) (l l' : Option Lent) (f : Fixture) (p : DeviceProgress) → (is_input o ≡ false → l ≡ l')
     → offered o first last (area_words o first last l) f p ≡ offered o first last (area_words o first last l') f p
 unfolding offered
 offer-lease o first last l l' f p same =
@@ -24,7 +24,7 @@ offer-lease o first last l l' f p same =
     (λ (not : is_input o ≡ false). ap (λ k. offered o first last (area_words o first last k) f p) (same not))
     (cases_Bool (is_input o))
 
-pub words-lease : (o : TransferOrder) (first last : ℕ) (l l' : Option Lent) (f : Fixture) (p : Progress) → (is_input o ≡ false → l ≡ l')
+pub words-lease : (o : TransferOrder) (first last : ℕ) (l l' : Option Lent) (f : Fixture) (p : DeviceProgress) → (is_input o ≡ false → l ≡ l')
     → all_words o first last l f p ≡ all_words o first last l' f p
 unfolding all_words
 words-lease o first last l l' f p same = ap (stopped o) (offer-lease o first last l l' f p same)
@@ -42,7 +42,7 @@ map_same f g same None = refl
 map_same f g same (Some x) = ap Some (same x)
 
 -- the words that move stay the same while they move
-pub words-moved : (n : ℕ) (t : Motion) → words_of (moved_by n t) ≡ words_of t
+pub words-moved : (n : ℕ) (t : Motion) → words_in_flight (moved_by n t) ≡ words_in_flight t
 unfolding moved_by
 words-moved n t =
     words-lease t.order t.first t.last (lease_by n t) t.lease t.fixture t.progress
@@ -57,7 +57,7 @@ moved_two a b t within =
     u : Motion
     u = moved_by a t
 
-    same : words_of u ≡ words_of t
+    same : words_in_flight u ≡ words_in_flight t
     same = words-moved a t
 
     counts : min (u.moved + b) (total_of u) ≡ min (t.moved + (a + b)) (total_of t)
@@ -71,7 +71,7 @@ moved_two a b t within =
     rest : drop u.moved (moves_of u) ≡ drop a (drop t.moved ms)
     rest =
         ap (λ ws. drop u.moved (addressed t.order t.first t.last ws)) same
-        ∙ ap (λ n. drop (min (t.moved + a) n) ms) (sym (length-addressed t.order t.first t.last (words_of t)))
+        ∙ ap (λ n. drop (min (t.moved + a) n) ms) (sym (length-addressed t.order t.first t.last (words_in_flight t)))
         ∙ drop_min (t.moved + a) ms
         ∙ sym (drop-drop a t.moved ms)
 
@@ -117,7 +117,7 @@ moved_none t within =
         (cases_Bool (is_input t.order))
 
 -- one word more
-pub moved_one : (t : Motion) (w : ℕ) → t.moved < total_of t → w ≡ get_or (words_of t) t.moved 0
+pub moved_one : (t : Motion) (w : ℕ) → t.moved < total_of t → w ≡ get_or (words_in_flight t) t.moved 0
     → (let u : Motion = record t {
       moved = t.moved + 1;
       lease =
@@ -131,7 +131,9 @@ moved_one t w more is =
     counts = omega arith
 
     next : take 1 (drop t.moved (moves_of t)) ≡ (place_of t.order t.first t.last t.moved, w) ∷ []
-    next = ap (take 1) (addressed-drop t.order t.first t.last t.moved (words_of t) more) ∙ ap (λ x. (place_of t.order t.first t.last t.moved, x) ∷ []) (sym is)
+    next =
+        ap (take 1) (addressed-drop t.order t.first t.last t.moved (words_in_flight t) more)
+        ∙ ap (λ x. (place_of t.order t.first t.last t.moved, x) ∷ []) (sym is)
 
     leases : cond (is_input t.order) (option_map (λ l. with_lent_word l (place_of t.order t.first t.last t.moved) w) t.lease) t.lease ≡ lease_by 1 t
     leases = ap (λ (ms : List (ℕ × ℕ)). cond (is_input t.order) (option_map (put_words ms) t.lease) t.lease) (sym next)
@@ -146,7 +148,7 @@ moved_min n t within =
     counts = omega arith
 
     left : length (drop t.moved (moves_of t)) ≡ total_of t - t.moved
-    left = length-drop t.moved (moves_of t) ∙ ap (λ k. k - t.moved) (length-addressed t.order t.first t.last (words_of t))
+    left = length-drop t.moved (moves_of t) ∙ ap (λ k. k - t.moved) (length-addressed t.order t.first t.last (words_in_flight t))
 
     leases : lease_by (min n (total_of t - t.moved)) t ≡ lease_by n t
     leases =

@@ -4,7 +4,7 @@ use Rattle.std.specs.Prelude.{slice_set}
 use Rattle.std.proofs.lemmas.List.{take_all}
 use Rattle.kdf_word.specs.Characters.{codes_of_all}
 use Rattle.kdf_transfer.specs.declared.order.TransferOrder.{TransferOrder}
-use Rattle.kdf_transfer.specs.Devices.{Fixture, Progress}
+use Rattle.kdf_transfer.specs.Devices.{Fixture, DeviceProgress}
 use Rattle.kdf_transfer.specs.AtOnce.{is_input, is_output, area_len, given, stopped, offered, addressed, place_of, written, order_words, stored}
 use Rattle.kdf_transfer.proofs.Addresses.{addressed-drop, length-addressed, take_two}
 use Rattle.kdf_transfer.proofs.Areas.{input_has, len_is}
@@ -33,7 +33,7 @@ written_all o first last i moved ws all =
     ap (λ xs. written xs ws) (take_all i (addressed o first last moved) (omega (arith, length-addressed o first last moved)))
 
 -- what an input order stores, and what no other does
-pub stored_input : (o : TransferOrder) (first last : ℕ) (ws : List ℕ) (f : Fixture) (p : Progress) → is_input o ≡ true
+pub stored_input : (o : TransferOrder) (first last : ℕ) (ws : List ℕ) (f : Fixture) (p : DeviceProgress) → is_input o ≡ true
     → written (addressed o first last (stopped o (take (last + 1 - first) (given o f p)))) ws ≡ stored o first last ws f p
 unfolding offered
 stored_input o first last ws f p is =

@@ -13,9 +13,9 @@ use Rattle.kdf_word.proofs.Packing.{get_or-words_of, length-words_of}
 use Rattle.kdf_lockout.specs.Groups.{Lent, lent_word, with_lent_word, with_lent_words}
 use Rattle.kdf_media.specs.Media.{through_end_word}
 use Rattle.kdf_transfer.specs.declared.order.TransferOrder.{TransferOrder}
-use Rattle.kdf_transfer.specs.Devices.{Fixture, Progress}
+use Rattle.kdf_transfer.specs.Devices.{Fixture, DeviceProgress}
 use Rattle.kdf_transfer.specs.AtOnce.{at_addresses, down_addresses, area_len, filled, given, has_area, is_backward, is_input, is_output, stopped, stops_at_end}
-use Rattle.kdf_transfer.specs.InFlight.{Motion, all_words, lease_by, lent_at, moved_by, moves_of, put_words, total_of, words_of as words_in_flight}
+use Rattle.kdf_transfer.specs.InFlight.{Motion, all_words, lease_by, lent_at, moved_by, moves_of, put_words, total_of, words_in_flight}
 use Rattle.kdf_transfer.specs.Runs.{IsRun, lent_words, run_words}
 use Rattle.kdf_transfer.proofs.Addresses.{down-drop, length-addressed, length-at, length-down, take_two}
 use Rattle.kdf_transfer.proofs.Areas.{area_has, input_has, len_is, output_has}
@@ -34,7 +34,7 @@ length-run o codes = at (is_backward o)
     at true = length-reverse (words_of codes)
     at false = refl
 
-module _ (o : TransferOrder) (first last : ℕ) (l : Option Lent) (f : Fixture) (p : Progress) where
+module _ (o : TransferOrder) (first last : ℕ) (l : Option Lent) (f : Fixture) (p : DeviceProgress) where
   abbrev all : List ℕ
   all = all_words o first last l f p
 
@@ -100,7 +100,7 @@ module _ (o : TransferOrder) (first last : ℕ) (l : Option Lent) (f : Fixture) 
       word_out k total l-is not is i low inside)
 
 -- no word is moved without an area
-pub none_left : (o : TransferOrder) (first last : ℕ) (l : Option Lent) (f : Fixture) (p : Progress) → l ≡ None → is_some l ≡ has_area o
+pub none_left : (o : TransferOrder) (first last : ℕ) (l : Option Lent) (f : Fixture) (p : DeviceProgress) → l ≡ None → is_some l ≡ has_area o
     → length (all_words o first last l f p) ≡ 0
 none_left o first last l f p none some =
     ⊎_elim

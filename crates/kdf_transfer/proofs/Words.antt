@@ -10,7 +10,7 @@ use Rattle.std.proofs.lemmas.Option.{slice_get-get_or, slice_get_past, get_or_fr
 use Rattle.kdf_word.specs.Characters.{codes_of, codes_of_all}
 use Rattle.kdf_lockout.specs.Groups.{Lent, with_lent_word}
 use Rattle.kdf_transfer.specs.declared.order.TransferOrder.{TransferOrder}
-use Rattle.kdf_transfer.specs.Devices.{Fixture, Progress}
+use Rattle.kdf_transfer.specs.Devices.{Fixture, DeviceProgress}
 use Rattle.kdf_transfer.specs.AtOnce.{is_input, is_output, has_area, fill, stopped, given, offered, words_out, finished, area_len}
 use Rattle.kdf_transfer.specs.InFlight.{Motion, lent_at, area_words, all_words, Covers, moved_by, moves_of, put_words, ended_progress, total_of}
 use Rattle.kdf_transfer.proofs.Addresses.{take_two}
@@ -19,7 +19,7 @@ use Rattle.kdf_transfer.proofs.Codes.{codes_more, length-codes}
 use Rattle.kdf_transfer.proofs.Areas.{input_has, output_has, len_is}
 use Rattle.kdf_transfer.proofs.Stopping.{stopped-le, stopped-at, cut_at}
 
-module _ (o : TransferOrder) (first last : ℕ) (l : Option Lent) (f : Fixture) (p : Progress) where
+module _ (o : TransferOrder) (first last : ℕ) (l : Option Lent) (f : Fixture) (p : DeviceProgress) where
   abbrev words : List ℕ
   words = all_words o first last l f p
 
@@ -168,7 +168,7 @@ block_more false codes codes' ws ws' m w is later lt first same =
     later ∙ ap (λ xs. xs ++ codes_of w) is ∙ codes_more ws m w lt first ∙ ap (λ xs. codes_of_all (take (m + 1) xs)) (sym same)
 
 -- the codes of all words that went out are those of the block
-pub block_whole : (o : TransferOrder) (first last : ℕ) (l : Option Lent) (f : Fixture) (p : Progress) (m : ℕ) → m ≡ length (all_words o first last l f p)
+pub block_whole : (o : TransferOrder) (first last : ℕ) (l : Option Lent) (f : Fixture) (p : DeviceProgress) (m : ℕ) → m ≡ length (all_words o first last l f p)
     → cond (is_input o) [] (codes_of_all (take m (all_words o first last l f p))) ≡ codes_of_all (words_out o (area_words o first last l))
 unfolding all_words offered
 block_whole o first last l f p m all =
@@ -233,7 +233,8 @@ no_block o ws block none = none ∙ at_bool (is_input o)
     at_bool false = refl
 
 -- there is room for all codes
-pub room_first : (o : TransferOrder) (first last total room : ℕ) (l : Option Lent) (f : Fixture) (p : Progress) → total ≡ length (all_words o first last l f p)
+pub room_first : (o : TransferOrder) (first last total room : ℕ) (l : Option Lent) (f : Fixture) (p : DeviceProgress)
+    → total ≡ length (all_words o first last l f p)
     → (is_output o ≡ true → 8 * (last + 1 - first) ≤ room) → is_input o ≡ false → 8 * total ≤ room
 room_first o first last total room l f p counted fits not =
     ⊎_elim

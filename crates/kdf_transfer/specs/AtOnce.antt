@@ -6,7 +6,7 @@ use Rattle.kdf_journal.specs.declared.kind.Kind.{Kind}
 use Rattle.kdf_journal.specs.declared.kind.Kind.TheVariants.{Tr, Tp, Cr, Lp, Mt}
 use Rattle.kdf_media.specs.Media.{ReaderState, CardsState, has_end, through_end, through_end_word, printed, after_read, after_card, card_words}
 use Rattle.kdf_tape.specs.Tape.{Recorded, TapeState, nearest, after_skip, after_write, rewound}
-use Rattle.kdf_transfer.specs.Devices.{Fixture, Progress}
+use Rattle.kdf_transfer.specs.Devices.{Fixture, DeviceProgress}
 use Rattle.kdf_transfer.specs.declared.order.TransferOrder.{TransferOrder}
 use Rattle.kdf_transfer.specs.declared.order.TransferOrder.TheVariants.{Prq, Preq, Pwq, Pweq, Crq, Lpq, Lpeq, Mfrq, Mbrq, Mwq, Mlwq, Mrwdq, Mfskq, Mbskq}
 
@@ -59,13 +59,13 @@ stops_at_end Lpeq = true
 stops_at_end _ = false
 
 -- the states of its devices that a fixture and its progress are
-abbrev pub reader_at : Fixture → Progress → ReaderState
+abbrev pub reader_at : Fixture → DeviceProgress → ReaderState
 reader_at f p = record { codes = f.codes; place = p.place; flag = p.flag }
 
-abbrev pub cards_at : Fixture → Progress → CardsState
+abbrev pub cards_at : Fixture → DeviceProgress → CardsState
 cards_at f p = record { cards = f.cards; place = p.place; flag = p.flag }
 
-abbrev pub tape_at : Fixture → Progress → TapeState
+abbrev pub tape_at : Fixture → DeviceProgress → TapeState
 tape_at f p = record { label = f.label; blocks = p.recorded; place = p.place; flag = p.flag; mark = p.mark; room = 0 }
 
 abbrev pub words_in : Option Recorded → List ℕ
@@ -73,7 +73,7 @@ words_in None = []
 words_in (Some block) = block.words
 
 -- the words that an input order gives to an area without bound, in order
-unfoldable pub given : TransferOrder → Fixture → Progress → List ℕ
+unfoldable pub given : TransferOrder → Fixture → DeviceProgress → List ℕ
 given Prq f p = words_of (drop p.place f.codes)
 given Preq f p = words_of (drop p.place f.codes)
 given Crq f p = card_words p.place f.cards
@@ -98,12 +98,12 @@ abbrev pub stopped : TransferOrder → List ℕ → List ℕ
 stopped o words = if stops_at_end o then map (filled o) (through_end_word words) else words
 
 -- the words that an order would move if it looked for no End Message, these being the words of the area
-unfoldable pub offered : TransferOrder → ℕ → ℕ → List ℕ → Fixture → Progress → List ℕ
+unfoldable pub offered : TransferOrder → ℕ → ℕ → List ℕ → Fixture → DeviceProgress → List ℕ
 offered o first last words f p =
     if is_input o then take (last + 1 - first) (given o f p) else (if is_output o then words else [])
 
 -- the words that an order moves, these being the words of the area
-abbrev pub moved_words : TransferOrder → ℕ → ℕ → List ℕ → Fixture → Progress → List ℕ
+abbrev pub moved_words : TransferOrder → ℕ → ℕ → List ℕ → Fixture → DeviceProgress → List ℕ
 moved_words o first last words f p = stopped o (offered o first last words f p)
 
 -- the place of word i, from 0
@@ -124,24 +124,24 @@ abbrev pub addressed : TransferOrder → ℕ → ℕ → List ℕ → List (ℕ 
 addressed o first last ws = if is_backward o then down_addresses last ws else at_addresses first ws
 
 -- the words that an order moves over an area of these words, in order, each with its address
-abbrev pub moves : TransferOrder → ℕ → ℕ → List ℕ → Fixture → Progress → List (ℕ × ℕ)
+abbrev pub moves : TransferOrder → ℕ → ℕ → List ℕ → Fixture → DeviceProgress → List (ℕ × ℕ)
 moves o first last words f p = addressed o first last (moved_words o first last words f p)
 
 -- a device that stands so after an order
-abbrev pub has_read : ReaderState → Progress → Progress
+abbrev pub has_read : ReaderState → DeviceProgress → DeviceProgress
 has_read r p = record p { place = r.place; flag = r.flag }
 
-abbrev pub has_dealt : CardsState → Progress → Progress
+abbrev pub has_dealt : CardsState → DeviceProgress → DeviceProgress
 has_dealt c p = record p { place = c.place; flag = c.flag }
 
-abbrev pub has_wound : TapeState → Progress → Progress
+abbrev pub has_wound : TapeState → DeviceProgress → DeviceProgress
 has_wound t p = record p { place = t.place; flag = t.flag; mark = t.mark; recorded = t.blocks }
 
-abbrev pub has_written : List ℕ → Progress → Progress
+abbrev pub has_written : List ℕ → DeviceProgress → DeviceProgress
 has_written block p = record p { place = p.place + 1; flag = false; blocks = p.blocks ++ block ∷ [] }
 
 -- the new state of a device after an order with an area of n words, which moved these characters to it
-unfoldable pub finished : TransferOrder → ℕ → List ℕ → Fixture → Progress → Progress
+unfoldable pub finished : TransferOrder → ℕ → List ℕ → Fixture → DeviceProgress → DeviceProgress
 finished Prq n codes f p = has_read (after_read false n (reader_at f p)) p
 finished Preq n codes f p = has_read (after_read true n (reader_at f p)) p
 finished Pwq n codes f p = has_written codes p
@@ -166,7 +166,7 @@ abbrev pub words_out : TransferOrder → List ℕ → List ℕ
 words_out o words = if is_input o then [] else stopped o (if is_output o then words else [])
 
 -- the new state of the device, these being the words of the area
-abbrev pub device_after : TransferOrder → ℕ → ℕ → List ℕ → Fixture → Progress → Progress
+abbrev pub device_after : TransferOrder → ℕ → ℕ → List ℕ → Fixture → DeviceProgress → DeviceProgress
 device_after o first last words f p = finished o (area_len o first last) (codes_of_all (words_out o words)) f p
 
 -- a list of words after moves into it
@@ -179,7 +179,7 @@ abbrev pub order_words : TransferOrder → ℕ → ℕ → List ℕ → List ℕ
 order_words o first last words = if has_area o then take (last + 1 - first) (drop first words) else []
 
 -- a list of words after an order whose area lies in it
-abbrev pub stored : TransferOrder → ℕ → ℕ → List ℕ → Fixture → Progress → List ℕ
+abbrev pub stored : TransferOrder → ℕ → ℕ → List ℕ → Fixture → DeviceProgress → List ℕ
 stored o first last words f p =
     if is_input o then written (moves o first last (order_words o first last words) f p) words else words
 

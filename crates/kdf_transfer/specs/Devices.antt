@@ -20,7 +20,7 @@ pub record Fixture : Type 0 where
   pub cards : List (List ℕ)
 
 -- how far a device has come: the characters of its finished blocks, or the blocks of its tape
-pub record Progress : Type 0 where
+pub record DeviceProgress : Type 0 where
   pub place : ℕ
   pub flag : Bool
   pub mark : Bool
@@ -28,7 +28,7 @@ pub record Progress : Type 0 where
   pub recorded : List Recorded
 
 -- a device that has moved nothing
-abbrev pub new_progress : Progress
+abbrev pub new_progress : DeviceProgress
 new_progress = record { place = 0; flag = false; mark = false; blocks = []; recorded = [] }
 
 -- what a device of a kind is that has no medium and no label
@@ -58,7 +58,7 @@ fixture_of (Cr c) = record { kind = kind.Cr; label = 0; codes = []; cards = c.ca
 fixture_of (Lp d) = record { kind = kind.Lp; label = 0; codes = []; cards = [] }
 fixture_of (Mt t) = record { kind = kind.Mt; label = t.label; codes = []; cards = [] }
 
-abbrev pub progress_of : Device → Progress
+abbrev pub progress_of : Device → DeviceProgress
 progress_of (Tr r) = record { place = r.place; flag = r.flag; mark = false; blocks = []; recorded = [] }
 progress_of (Tp d) = record { place = length d.blocks; flag = false; mark = false; blocks = d.blocks; recorded = [] }
 progress_of (Cr c) = record { place = c.place; flag = c.flag; mark = false; blocks = []; recorded = [] }
@@ -97,7 +97,7 @@ is_wanted (Kinded k) fixture = is_kind k (kind_in fixture)
 is_wanted (Labelled label) fixture = has_label label fixture
 
 -- a device's flag, whether it stands at its start, and its mark
-abbrev pub test_of : Test → Progress → Bool
+abbrev pub test_of : Test → DeviceProgress → Bool
 test_of Flag p = p.flag
 test_of Start p = p.place == 0
 test_of Mark p = p.mark

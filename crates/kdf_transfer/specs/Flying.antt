@@ -5,7 +5,7 @@ use Rattle.kdf_word.specs.Characters.{codes_of_all}
 use Rattle.kdf_transfer.specs.AtOnce.{kind_of, is_input, has_area, blocks_out}
 use Rattle.kdf_transfer.specs.Devices.{fixture_of, progress_of, room_of}
 use Rattle.kdf_transfer.specs.declared.flight.Flight.{Flight}
-use Rattle.kdf_transfer.specs.InFlight.{Motion, words_of, total_of, ring_of, Covers}
+use Rattle.kdf_transfer.specs.InFlight.{Motion, words_in_flight, total_of, ring_of, Covers}
 
 -- what contracts see of a transfer's parts
 abbrev pub motion_of : Flight → Motion
@@ -30,5 +30,5 @@ pub record IsFlying (f : Flight) : Type 0 where
   pub total : f.total ≡ total_of (motion_of f)
   pub moved : f.moved ≤ f.total
   pub ring : f.ring ≡ ring_of (motion_of f)
-  pub block : f.block.items ≡ (if is_input f.order then [] else codes_of_all (take f.moved (words_of (motion_of f))))
+  pub block : f.block.items ≡ (if is_input f.order then [] else codes_of_all (take f.moved (words_in_flight (motion_of f))))
   pub room : is_input f.order ≡ false → 8 * f.total ≤ vec_capacity f.block

@@ -4,7 +4,7 @@ use Rattle.std.specs.List.{range_with_len}
 use Rattle.std.specs.Option.{option_map}
 use Rattle.kdf_lockout.specs.Groups.{Lent, lent_word, with_lent_word}
 use Rattle.kdf_transfer.specs.declared.order.TransferOrder.{TransferOrder}
-use Rattle.kdf_transfer.specs.Devices.{Fixture, Progress}
+use Rattle.kdf_transfer.specs.Devices.{Fixture, DeviceProgress}
 use Rattle.kdf_transfer.specs.AtOnce.{is_input, has_area, moved_words, addressed, device_after}
 
 -- the order, its area in places of the store, the device as at the begin, the lease as it is now, and how many words have moved.
@@ -14,7 +14,7 @@ pub record Motion : Type 0 where
   pub first : ℕ
   pub last : ℕ
   pub fixture : Fixture
-  pub progress : Progress
+  pub progress : DeviceProgress
   pub lease : Option Lent
   pub moved : ℕ
 
@@ -27,21 +27,21 @@ abbrev pub area_words : TransferOrder → ℕ → ℕ → Option Lent → List �
 area_words o first last l = if has_area o then map (lent_at l) (range_with_len first (last + 1 - first)) else []
 
 -- the words that the order moves, in order
-unfoldable pub all_words : TransferOrder → ℕ → ℕ → Option Lent → Fixture → Progress → List ℕ
+unfoldable pub all_words : TransferOrder → ℕ → ℕ → Option Lent → Fixture → DeviceProgress → List ℕ
 all_words o first last l f p = moved_words o first last (area_words o first last l) f p
 
-abbrev pub words_of : Motion → List ℕ
-words_of t = all_words t.order t.first t.last t.lease t.fixture t.progress
+abbrev pub words_in_flight : Motion → List ℕ
+words_in_flight t = all_words t.order t.first t.last t.lease t.fixture t.progress
 
 abbrev pub total_of : Motion → ℕ
-total_of t = length (words_of t)
+total_of t = length (words_in_flight t)
 
 -- the next words, at most eight
 abbrev pub ring_of : Motion → List ℕ
-ring_of t = take 8 (drop t.moved (words_of t))
+ring_of t = take 8 (drop t.moved (words_in_flight t))
 
 abbrev pub moves_of : Motion → List (ℕ × ℕ)
-moves_of t = addressed t.order t.first t.last (words_of t)
+moves_of t = addressed t.order t.first t.last (words_in_flight t)
 
 -- a lease after words are written
 abbrev pub put_words : List (ℕ × ℕ) → Lent → Lent
@@ -65,7 +65,7 @@ moved_by n t =
     }
 
 -- the device once the transfer has ended
-abbrev pub ended_progress : Motion → Progress
+abbrev pub ended_progress : Motion → DeviceProgress
 ended_progress t = device_after t.order t.first t.last (area_words t.order t.first t.last t.lease) t.fixture t.progress
 
 abbrev pub lease_first : Option Lent → ℕ

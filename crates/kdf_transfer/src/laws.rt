@@ -2,7 +2,7 @@
 ghost use Rattle.std.specs.Prelude.{◌≡◌, ℕ, ◌+◌, ◌≤◌, take, true, false};
 ghost use Rattle.std.specs.Option.{option_map};
 ghost use Rattle.kdf_transfer.specs.AtOnce.{is_input};
-ghost use Rattle.kdf_transfer.specs.InFlight.{Motion, ended_progress, moved_by, moves_of, put_words, total_of, words_of};
+ghost use Rattle.kdf_transfer.specs.InFlight.{Motion, ended_progress, moved_by, moves_of, put_words, total_of, words_in_flight};
 
 /// However its moves are cut, a transfer is where one move of as many words brings it, and the rest brings it to one end.
 pub fn cuts()
@@ -15,7 +15,7 @@ pub fn cuts()
 
 /// However many words have moved, the words that move and the new state of the device are those of the begin.
 pub fn fixed_at_the_begin()
-    ensures words { (n : ℕ) (t : Motion) → words_of (moved_by n t) ≡ words_of t }
+    ensures words { (n : ℕ) (t : Motion) → words_in_flight (moved_by n t) ≡ words_in_flight t }
     ensures device { (n : ℕ) (t : Motion) → ended_progress (moved_by n t) ≡ ended_progress t }
 {}
 

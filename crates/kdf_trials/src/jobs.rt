@@ -1,6 +1,6 @@
 //! Jobs that are read, with the images of their decks.
 ghost use Rattle.std.specs.Prelude.{◌≤◌, map, length, sum_by, IfOk};
-ghost use Rattle.kdf_place.specs.declared.image.Image.{Image as Made};
+ghost use Rattle.kdf_place.specs.declared.image.Image.{Image};
 ghost use Rattle.kdf_theory.specs.Follows.{entries_in};
 ghost use Rattle.kdf_theory.specs.Loading.{HaveImages};
 ghost use Rattle.kdf_job.specs.Shows.{shown_job, shown_slot};
@@ -30,7 +30,7 @@ pub fn job_of(rt: &impl Abort, alloc: Global, text: &str) -> Result<Job, AllocEr
 pub fn images_of(alloc: Global, job: &Job) -> Result<Vec<Image>, AllocError>
     requires { IsJob (shown_job job.now) }
     ensures { IfOk result (λ images. HaveImages (map shown_slot job.now.slots.items)
-        (map (λ (x : Made). x.words.items) images.items)) }
+        (map (λ (x : Image). x.words.items) images.items)) }
 {
     match assemble_decks(alloc, &job.slots) {
         Ok(images) => Ok(images),

@@ -1,7 +1,7 @@
 //! Programs that share punches and printers, under twenty schedules: the section of each that is over is the one that it has alone,
 //! with the answers that the journal tells.
 ghost use Rattle.std.specs.Prelude.{◌≡◌, ◌<◌, ◌≤◌, [], IfOk, length, map};
-ghost use Rattle.kdf_place.specs.declared.image.Image.{Image as Made};
+ghost use Rattle.kdf_place.specs.declared.image.Image.{Image};
 ghost use Rattle.kdf_theory.specs.Loading.{HaveImages, slots_of};
 ghost use Rattle.kdf_job.specs.Shows.{shown_job, shown_slot};
 ghost use Rattle.kdf_job.specs.WellFormed.{IsJob, IsSlot};
@@ -162,9 +162,9 @@ fn reported(
 ) -> Result<Vec<u8>, AllocError>
     requires job { IsJob (shown_job job.now) }
     requires images { HaveImages (map shown_slot job.now.slots.items)
-        (map (λ (x : Made). x.words.items) images.now) }
+        (map (λ (x : Image). x.words.items) images.now) }
     requires slots { machine.old.slots ≡ slots_of (map shown_slot job.now.slots.items)
-        (map (λ (x : Made). x.words.items) images.now) }
+        (map (λ (x : Image). x.words.items) images.now) }
     requires fresh { machine.old.journal ≡ [] }
     requires room { length job.now.events.items ≤ machine.old.room }
 {
@@ -183,9 +183,9 @@ fn compare_all(
 ) -> Result<(), AllocError>
     requires job { IsJob (shown_job job.now) }
     requires images { HaveImages (map shown_slot job.now.slots.items)
-        (map (λ (x : Made). x.words.items) images.now) }
+        (map (λ (x : Image). x.words.items) images.now) }
     requires slots { machine.old.slots ≡ slots_of (map shown_slot job.now.slots.items)
-        (map (λ (x : Made). x.words.items) images.now) }
+        (map (λ (x : Image). x.words.items) images.now) }
     requires fresh { machine.old.journal ≡ [] }
     requires room { length job.now.events.items ≤ machine.old.room }
 {

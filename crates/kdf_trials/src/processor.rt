@@ -1,7 +1,7 @@
 //! Single orders over a port of which groups, devices and the pool may be out of reach.
-mod bench;
+mod trial_port;
 
-use self::bench::{Bench, Call};
+use self::trial_port::{Call, TrialPort};
 use kdf_journal::Kind;
 use kdf_nest::Nest;
 use kdf_processor::{Failure, Life, Need, Registers, Step, obey};
@@ -84,9 +84,9 @@ const ORDERS: [Case; 5] = [
 ];
 
 /// A port with this word at each address.
-fn port(word: u64, reach: Reach) -> Bench {
+fn port(word: u64, reach: Reach) -> TrialPort {
     let (out, busy, mine, taken) = reach;
-    Bench {
+    TrialPort {
         word: Word::new(word % (1 << 48)),
         out,
         busy,

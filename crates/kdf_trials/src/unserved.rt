@@ -1,9 +1,9 @@
 //! What needs no service: a call of a machine, a run that is made again, and the check of a report.
 ghost use Rattle.std.specs.Prelude.{◌≡◌, All, IfOk, false, map, true};
-ghost use Rattle.kdf_place.specs.declared.image.Image.{Image as Made};
+ghost use Rattle.kdf_place.specs.declared.image.Image.{Image};
 ghost use Rattle.kdf_theory.specs.Loading.{HaveImages, slots_of};
 ghost use Rattle.kdf_theory.specs.Slots.{NoneServed};
-ghost use Rattle.kdf_job.specs.Job.{SlotJob as Shown};
+ghost use Rattle.kdf_job.specs.Job.{ShownSlot};
 ghost use Rattle.kdf_job.specs.Shows.{shown_job, shown_slot};
 ghost use Rattle.kdf_job.specs.WellFormed.{IsJob};
 
@@ -37,7 +37,7 @@ const REPORT: &[u8] = b"KDF9 REPORT 1\nRAN 0 4\nSLOT 0\n";
 fn unserved(rt: &impl Abort, alloc: Global) -> Result<Job, AllocError>
     ensures job { IfOk result (λ job. IsJob (shown_job job)) }
     ensures unserved { IfOk result (λ job.
-        All (λ (slot : Shown). slot.served ≡ false) (map shown_slot job.slots.items)) }
+        All (λ (slot : ShownSlot). slot.served ≡ false) (map shown_slot job.slots.items)) }
 {
     let job = job_of(rt, alloc, JOB)?;
     assert!(rt; are_unserved(&job.slots));
@@ -65,9 +65,9 @@ fn first_call(rt: &impl Abort, machine: &mut Machine) -> Result<(), AllocError>
 #[tactic(auto, using(crate::proofs::Tried::none_served))]
 fn goes(rt: &impl Abort, alloc: Global, job: &Job, images: &[Image]) -> Result<(), AllocError>
     requires job { IsJob (shown_job job.now) }
-    requires unserved { All (λ (slot : Shown). slot.served ≡ false) (map shown_slot job.now.slots.items) }
+    requires unserved { All (λ (slot : ShownSlot). slot.served ≡ false) (map shown_slot job.now.slots.items) }
     requires images { HaveImages (map shown_slot job.now.slots.items)
-        (map (λ (x : Made). x.words.items) images.now) }
+        (map (λ (x : Image). x.words.items) images.now) }
 {
     let mut machine = Machine::load(alloc, job, images)?;
     let gone = first_call(rt, &mut machine);
@@ -84,9 +84,9 @@ fn made_again(
     entry: Entry,
 ) -> Result<(), RebuildError>
     requires job { IsJob (shown_job job.now) }
-    requires unserved { All (λ (slot : Shown). slot.served ≡ false) (map shown_slot job.now.slots.items) }
+    requires unserved { All (λ (slot : ShownSlot). slot.served ≡ false) (map shown_slot job.now.slots.items) }
     requires images { HaveImages (map shown_slot job.now.slots.items)
-        (map (λ (x : Made). x.words.items) images.now) }
+        (map (λ (x : Image). x.words.items) images.now) }
 {
     assert!(rt; job.events.len() == 1);
     rebuild(alloc, job, 1, images, &[entry])?.close();
@@ -96,9 +96,9 @@ fn made_again(
 /// The run is made again with the entry of its journal, and differs from another.
 fn is_made_again(rt: &impl Abort, alloc: Global, job: &Job, images: &[Image])
     requires job { IsJob (shown_job job.now) }
-    requires unserved { All (λ (slot : Shown). slot.served ≡ false) (map shown_slot job.now.slots.items) }
+    requires unserved { All (λ (slot : ShownSlot). slot.served ≡ false) (map shown_slot job.now.slots.items) }
     requires images { HaveImages (map shown_slot job.now.slots.items)
-        (map (λ (x : Made). x.words.items) images.now) }
+        (map (λ (x : Image). x.words.items) images.now) }
 {
     let again = made_again(rt, alloc, job, images, Entry::Ran { p: 0, n: 4 });
     assert!(rt; again == Ok(()));
@@ -110,9 +110,9 @@ fn is_made_again(rt: &impl Abort, alloc: Global, job: &Job, images: &[Image])
 #[tactic(auto, using(crate::proofs::Tried::none_served))]
 fn is_checked(rt: &impl Abort, alloc: Global, job: &Job, images: &[Image]) -> Result<(), AllocError>
     requires job { IsJob (shown_job job.now) }
-    requires unserved { All (λ (slot : Shown). slot.served ≡ false) (map shown_slot job.now.slots.items) }
+    requires unserved { All (λ (slot : ShownSlot). slot.served ≡ false) (map shown_slot job.now.slots.items) }
     requires images { HaveImages (map shown_slot job.now.slots.items)
-        (map (λ (x : Made). x.words.items) images.now) }
+        (map (λ (x : Image). x.words.items) images.now) }
 {
     assert!(rt; REPORT.len() < 100);
     let verdict = check(alloc, job, images, REPORT)?;

@@ -2,7 +2,7 @@
 ghost use Rattle.std.specs.Prelude.{◌≡◌, ◌%◌, ◌≤◌, ◌==◌, ◌&&◌, ◌||◌, [], length, map, nat_le, sum_by};
 ghost use Rattle.kdf_theory.specs.Follows.{entries_in};
 ghost use Rattle.kdf_watch.specs.Cursors.{KeepsLimits};
-ghost use Rattle.kdf_place.specs.declared.image.Image.{Image as Made};
+ghost use Rattle.kdf_place.specs.declared.image.Image.{Image};
 ghost use Rattle.kdf_service.specs.Rules.{IsService};
 ghost use Rattle.kdf_theory.specs.Loading.{HaveImages, slots_of};
 ghost use Rattle.kdf_job.specs.Shows.{shown_job, shown_slot};
@@ -51,9 +51,9 @@ fn reported(
 ) -> Result<Vec<u8>, AllocError>
     requires job { IsJob (shown_job job.now) }
     requires images { HaveImages (map shown_slot job.now.slots.items)
-        (map (λ (x : Made). x.words.items) images.now) }
+        (map (λ (x : Image). x.words.items) images.now) }
     requires slots { machine.now.slots ≡ slots_of (map shown_slot job.now.slots.items)
-        (map (λ (x : Made). x.words.items) images.now) }
+        (map (λ (x : Image). x.words.items) images.now) }
 {
     let _images = images;
     let _journal = machine.journal();
@@ -94,7 +94,7 @@ fn watched<F: Fn(u64) -> u64, G: Fn(Look) -> bool>(
 ) -> Result<Vec<u8>, AllocError>
     requires job { IsJob (shown_job job.now) }
     requires images { HaveImages (map shown_slot job.now.slots.items)
-        (map (λ (x : Made). x.words.items) images.now) }
+        (map (λ (x : Image). x.words.items) images.now) }
     requires service { IsService (F.pre service.now) (F.post service.now) }
     requires watch { IsWatch (G.pre watch.now) (G.post watch.now) }
 {
@@ -117,7 +117,7 @@ fn stopped<F: Fn(u64) -> u64>(
 ) -> Result<Vec<u8>, AllocError>
     requires job { IsJob (shown_job job.now) }
     requires images { HaveImages (map shown_slot job.now.slots.items)
-        (map (λ (x : Made). x.words.items) images.now) }
+        (map (λ (x : Image). x.words.items) images.now) }
     requires service { IsService (F.pre service.now) (F.post service.now) }
 {
     let (each, first, last) = rule;
@@ -140,7 +140,7 @@ fn expect_each<F: Fn(u64) -> u64>(
 ) -> Result<(), AllocError>
     requires job { IsJob (shown_job job.now) }
     requires images { HaveImages (map shown_slot job.now.slots.items)
-        (map (λ (x : Made). x.words.items) images.now) }
+        (map (λ (x : Image). x.words.items) images.now) }
     requires service { IsService (F.pre service.now) (F.post service.now) }
 {
     for rule in RULES {
@@ -159,7 +159,7 @@ fn unwatched<F: Fn(u64) -> u64>(
 ) -> Result<Vec<u8>, AllocError>
     requires job { IsJob (shown_job job.now) }
     requires images { HaveImages (map shown_slot job.now.slots.items)
-        (map (λ (x : Made). x.words.items) images.now) }
+        (map (λ (x : Image). x.words.items) images.now) }
     requires service { IsService (F.pre service.now) (F.post service.now) }
 {
     let mut machine = Machine::load(alloc, job, images)?;

@@ -31,7 +31,7 @@ use Rattle.kdf_usercode.specs.declared.phase.Stage.{Stage}
 use Rattle.kdf_usercode.specs.declared.phase.Stage.TheVariants.{Heading, Constants, Body, Ended}
 use Rattle.kdf_usercode.specs.declared.statement.Named.{Named}
 use Rattle.kdf_usercode.specs.Bytes.{letter_b, letter_p}
-use Rattle.kdf_usercode.specs.Parse.{behind}
+use Rattle.kdf_usercode.specs.Parse.{text_behind}
 use Rattle.kdf_usercode.specs.Range.{q_range, reference_range, part_range, opened_range, store_range, range_fault, range_faults}
 use Rattle.kdf_usercode.specs.Octal.{octal}
 use Rattle.kdf_usercode.specs.Characters.{or_zero, code_at, half, characters_word}
@@ -111,7 +111,7 @@ order-fits orders.Exit ns text f r o = let a = first exit_range [] ns r in omega
 order-fits orders.SetUp ns text f r o = let a = first up_range [] ns r in omega (arith, a.1)
 order-fits orders.SetDown ns text f r o = omega arith
 order-fits orders.SetOctal ns text f r o =
-    let a = within-one octal_set_range (octal (behind letter_b text)) o in
+    let a = within-one octal_set_range (octal (text_behind letter_b text)) o in
     omega (arith, a.1)
 
 order-alone : (form : OrderForm) (ns text : List ℕ) → has_code form ≡ true
@@ -266,9 +266,9 @@ value-fits : (form : ValueForm) (ns text : List ℕ) → IsValueForm form
 value-fits values.Up ns text f r o = let a = first word_up_range [] ns r in omega (arith, a.1)
 value-fits values.Down ns text f r o = omega arith
 value-fits values.Octal ns text f r o =
-    let a = within-one octal_word_range (octal (behind letter_b text)) o in
+    let a = within-one octal_word_range (octal (text_behind letter_b text)) o in
     omega (arith, a.1)
-value-fits values.Characters ns text f r o = word-below (behind letter_p text)
+value-fits values.Characters ns text f r o = word-below (text_behind letter_p text)
 value-fits (values.Triple c i m) ns text f r o = triple-fits c i m ns f r
 
 constant-fits : (form : ValueForm) (ns text : List ℕ) → IsValueForm form

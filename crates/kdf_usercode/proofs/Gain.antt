@@ -5,7 +5,7 @@ use Rattle.kdf_usercode.specs.declared.fault.DeckFault.TheVariants.{AfterFinish,
 use Rattle.kdf_usercode.specs.declared.forms.Form.{Form}
 use Rattle.kdf_usercode.specs.declared.phase.Phase.{Phase}
 use Rattle.kdf_usercode.specs.declared.reading.Reading.{Reading}
-use Rattle.kdf_usercode.specs.Faults.{Found, lesser, least, founds}
+use Rattle.kdf_usercode.specs.Faults.{FoundFault, lesser, least, founds}
 use Rattle.kdf_usercode.specs.declared.statement.Statement.{Statement}
 use Rattle.kdf_usercode.specs.declared.statement.What.{What}
 use Rattle.kdf_usercode.specs.Capped.{capped}
@@ -22,11 +22,11 @@ use Rattle.kdf_usercode.proofs.Ranges.{nil-append}
 use Rattle.kdf_usercode.proofs.Least.{none-before, none-behind, no-founds, least-front, founds-append}
 
 -- a fault more leaves no statements to speak of
-not-none : {A : Type 0} (best best' : Option Found) (x : Found) → best' ≡ lesser best (Some x)
+not-none : {A : Type 0} (best best' : Option FoundFault) (x : FoundFault) → best' ≡ lesser best (Some x)
     → best' ≡ None → A
 not-none best best' x e none = let h : Some x ≡ None = none-behind best (Some x) (sym e ∙ none) in absurd cc
 
-pub reads-ended : (old : Reading) (best' : Option Found) (s : Parsed) → is_ended old.phase ≡ true
+pub reads-ended : (old : Reading) (best' : Option FoundFault) (s : Parsed) → is_ended old.phase ≡ true
     → best' ≡ lesser old.best (Some (record { fault = AfterFinish; place = s.place }))
     → Reads old (record old { best = best' }) s
 unfolding phase_after statement_faults
@@ -37,7 +37,7 @@ reads-ended old best' s ended e = record {
   stars = λ none. not-none old.best best' (record { fault = AfterFinish; place = s.place }) e none;
 }
 
-pub reads-formless : (old : Reading) (best' : Option Found) (s : Parsed) → is_ended old.phase ≡ false
+pub reads-formless : (old : Reading) (best' : Option FoundFault) (s : Parsed) → is_ended old.phase ≡ false
     → s.form ≡ None
     → best' ≡ lesser old.best (Some (record { fault = formless s.shape; place = s.place }))
     → Reads old (record old { best = best' }) s
@@ -63,7 +63,7 @@ faults-capped phase form ns text =
     let there : List DeckFault = cond (is_in_place phase form) [] (BadHeading ∷ []) in
     ap (λ (fs : List DeckFault). (fs ++ text_faults form text) ++ there) (form-faults-capped form ns)
 
-none-out : (best new : Option Found) (place : ℕ) (a b c : List DeckFault)
+none-out : (best new : Option FoundFault) (place : ℕ) (a b c : List DeckFault)
     → new ≡ lesser best (least (founds place ((a ++ b) ++ c))) → new ≡ None → a ≡ []
 none-out best new place a b c e none =
     let all = no-founds place ((a ++ b) ++ c) (none-behind best (least (founds place ((a ++ b) ++ c))) (sym e ∙ none)) in
@@ -87,12 +87,12 @@ reads-capped old new place form ns text h =
     }
 
 -- faults of two kinds at one place, one after the other
-pub two-kinds : (best : Option Found) (place : ℕ) (fs gs : List DeckFault)
+pub two-kinds : (best : Option FoundFault) (place : ℕ) (fs gs : List DeckFault)
     → lesser (lesser best (least (founds place fs))) (least (founds place gs)) ≡ lesser best (least (founds place (fs ++ gs)))
 two-kinds best place fs gs =
     least-front best (founds place fs) (founds place gs) ∙ ap (λ x. lesser best (least x)) (sym (founds-append place fs gs))
 
-pub no-fault : (best : Option Found) (place : ℕ) (fs gs : List DeckFault)
+pub no-fault : (best : Option FoundFault) (place : ℕ) (fs gs : List DeckFault)
     → lesser (lesser best (least (founds place fs))) (least (founds place gs)) ≡ None → fs ≡ []
 no-fault best place fs gs none =
     no-founds place fs (none-behind best (least (founds place fs)) (none-before (lesser best (least (founds place fs))) (least (founds place gs)) none))

@@ -21,7 +21,7 @@ use Rattle.kdf_usercode.specs.declared.constants.ValueForm.TheVariants as values
 use Rattle.kdf_usercode.specs.declared.forms.Form.{Form}
 use Rattle.kdf_usercode.specs.declared.forms.Form.TheVariants as forms
 use Rattle.kdf_usercode.specs.Bytes.{letter_a, letter_z, letter_b, letter_p}
-use Rattle.kdf_usercode.specs.Parse.{◌or◌, opt_map, behind, row_in, strip}
+use Rattle.kdf_usercode.specs.Parse.{◌or◌, opt_map, text_behind, row_in, strip}
 use Rattle.kdf_usercode.specs.Octal.{all_octal}
 use Rattle.kdf_usercode.specs.Characters.{are_characters}
 use Rattle.kdf_usercode.specs.OrderNames.{order_names}
@@ -59,7 +59,7 @@ unfolding order_form octal_order
 order-form shape text =
     holds-or (λ form. has_code form ≡ true) (row_in order_names shape) (octal_order shape text)
     (holds-row has_code order_names shape orders-have-codes)
-    (holds-if (λ form. has_code form ≡ true) (bytes_eq shape (codes "SETB0") && all_octal (behind letter_b text)) orders.SetOctal refl)
+    (holds-if (λ form. has_code form ≡ true) (bytes_eq shape (codes "SETB0") && all_octal (text_behind letter_b text)) orders.SetOctal refl)
 
 -- ---- stores
 
@@ -257,13 +257,13 @@ weaker P R (Some x) f h = f x h
 octal-value : (shape text : List ℕ) → Holds IsValueForm (octal_value shape text)
 unfolding octal_value
 octal-value shape text =
-    holds-if IsValueForm (bytes_eq shape (codes "B0") && all_octal (behind letter_b text)) values.Octal tt
+    holds-if IsValueForm (bytes_eq shape (codes "B0") && all_octal (text_behind letter_b text)) values.Octal tt
 
 characters-value : (shape text : List ℕ) → Holds IsValueForm (characters_value shape text)
 unfolding characters_value
 characters-value shape text =
     holds-bind (λ x. Unit {0}) IsValueForm (strip (codes "P") shape) _ (any (strip (codes "P") shape))
-    (λ rest u. holds-if IsValueForm (are_characters (behind letter_p text)) values.Characters tt)
+    (λ rest u. holds-if IsValueForm (are_characters (text_behind letter_p text)) values.Characters tt)
 
 value-form : (shape text : List ℕ) → Holds IsValueForm (value_form shape text)
 unfolding value_form

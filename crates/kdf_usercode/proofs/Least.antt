@@ -3,30 +3,30 @@ use Rattle.std.proofs.Common.{◌≡◌, ℕ, List, [], ◌∷◌, ◌++◌, Opt
 use Rattle.std.proofs.lemmas.List.{map-append}
 use Rattle.kdf_fault.proofs.Least as of_all
 use Rattle.kdf_usercode.specs.declared.fault.DeckFault.{DeckFault}
-use Rattle.kdf_usercode.specs.Faults.{Found, number_of, lesser, least, founds}
+use Rattle.kdf_usercode.specs.Faults.{FoundFault, number_of, lesser, least, founds}
 use Rattle.kdf_usercode.specs.Apart.{apart}
 
-pub some-stays : (x : Found) (later : Option Found) → (z : Found) × (lesser (Some x) later ≡ Some z)
+pub some-stays : (x : FoundFault) (later : Option FoundFault) → (z : FoundFault) × (lesser (Some x) later ≡ Some z)
 some-stays x later = of_all.some-stays number_of x later
 
-pub none-before : (a b : Option Found) → lesser a b ≡ None → a ≡ None
+pub none-before : (a b : Option FoundFault) → lesser a b ≡ None → a ≡ None
 none-before a b e = of_all.none-before number_of a b e
 
-pub none-behind : (a b : Option Found) → lesser a b ≡ None → b ≡ None
+pub none-behind : (a b : Option FoundFault) → lesser a b ≡ None → b ≡ None
 none-behind a b e = of_all.none-behind number_of a b e
 
-pub least-append : (xs ys : List Found) → least (xs ++ ys) ≡ lesser (least xs) (least ys)
+pub least-append : (xs ys : List FoundFault) → least (xs ++ ys) ≡ lesser (least xs) (least ys)
 least-append xs ys = of_all.least-append number_of xs ys
 
 -- where there is no least fault there is none
-pub least-none : (fs : List Found) → least fs ≡ None → fs ≡ []
+pub least-none : (fs : List FoundFault) → least fs ≡ None → fs ≡ []
 least-none fs e = of_all.least-none number_of fs e
 
-pub least-front : (best : Option Found) (here later : List Found)
+pub least-front : (best : Option FoundFault) (here later : List FoundFault)
     → lesser (lesser best (least here)) (least later) ≡ lesser best (least (here ++ later))
 least-front best here later = of_all.least-front number_of best here later
 
-pub least-between : (best : Option Found) (front here later : List Found)
+pub least-between : (best : Option FoundFault) (front here later : List FoundFault)
     → lesser (lesser best (least here)) (least (front ++ later)) ≡ lesser best (least (front ++ (here ++ later)))
 least-between best front here later = of_all.least-between number_of apart best front here later
 

@@ -10,7 +10,7 @@ use Rattle.kdf_usercode.specs.declared.statement.Statement.{Statement}
 use Rattle.kdf_usercode.specs.declared.reading.Reading.{Reading}
 use Rattle.std.proofs.lemmas.Bool.{ne_eqb}
 use Rattle.kdf_usercode.specs.Comments.{kept}
-use Rattle.kdf_usercode.specs.Faults.{Found, lesser, least}
+use Rattle.kdf_usercode.specs.Faults.{FoundFault, lesser, least}
 use Rattle.kdf_usercode.specs.Parsed.{Parsed, statements_in, parses, parsed}
 use Rattle.kdf_usercode.specs.Pieces.{Cut, onto, in_front, cut_before, cut, codes_of}
 use Rattle.kdf_usercode.specs.Grammar.{bytes_faults, comment_faults, statement_faults, phase_after, statements_of, faults_from, statements_from, verdict}
@@ -21,14 +21,14 @@ use Rattle.kdf_usercode.proofs.Least.{some-stays, least-between, least-front}
 use Rattle.kdf_usercode.proofs.Thinned.{thinned-append}
 
 -- a verdict where the statements are only known while there is no fault
-same-verdict : (best later : Option Found) (ss ss' : List Statement) → (best ≡ None → ss ≡ ss')
+same-verdict : (best later : Option FoundFault) (ss ss' : List Statement) → (best ≡ None → ss ≡ ss')
     → verdict (lesser best later) ss ≡ verdict (lesser best later) ss'
 same-verdict None None ss ss' h = ap (λ x. Ok x) (h refl)
 same-verdict None (Some y) ss ss' h = refl
 same-verdict (Some x) later ss ss' h = let z = some-stays x later in rw (z.1) refl
 
 -- one statement more was read
-pub outcome-statement : (old new : Reading) (w : Parsed) (len : ℕ) (front : List Found) (ws : List Parsed) (tail : List ByteAt)
+pub outcome-statement : (old new : Reading) (w : Parsed) (len : ℕ) (front : List FoundFault) (ws : List Parsed) (tail : List ByteAt)
     → Reads old new w
     → outcome new.phase new.best new.stars new.statements.items len front ws tail
     ≡ outcome old.phase old.best old.stars old.statements.items len front (w ∷ ws) tail
@@ -51,9 +51,9 @@ outcome-statement old new w len front ws tail h =
     step1 ∙ step2 ∙ step3
 
 -- one byte more was looked at
-pub outcome-byte : (phase : Phase) (best : Option Found) (stars : Stars) (ss : List Statement) (len : ℕ) (here front : List Found)
+pub outcome-byte : (phase : Phase) (best : Option FoundFault) (stars : Stars) (ss : List Statement) (len : ℕ) (here front : List FoundFault)
     (ws : List Parsed) (tail : List ByteAt)
-    (best' : Option Found)
+    (best' : Option FoundFault)
     → best' ≡ lesser best (least here)
     → outcome phase best' stars ss len front ws tail ≡ outcome phase best stars ss len (here ++ front) ws tail
 outcome-byte phase best stars ss len here front ws tail best' b =
@@ -65,7 +65,8 @@ outcome-byte phase best stars ss len here front ws tail best' b =
     ap (λ o. verdict o (ss ++ thinned stars (statements_from phase ws))) e
 
 -- a byte, whether it stays or not
-pub with_ahead-byte : (r : Reading) (best' : Option Found) (here : List Found) (piece : List ByteAt) (len : ℕ) (bad : List Found) (ahead : List ByteAt)
+pub with_ahead-byte : (r : Reading) (best' : Option FoundFault) (here : List FoundFault) (piece : List ByteAt) (len : ℕ) (bad : List FoundFault)
+    (ahead : List ByteAt)
     → best' ≡ lesser r.best (least here)
     → with_ahead (record r { best = best' }) piece len bad ahead ≡ with_ahead r piece len (here ++ bad) ahead
 with_ahead-byte r best' here piece len bad ahead b =
@@ -75,9 +76,9 @@ with_ahead-byte r best' here piece len bad ahead b =
     ∙ ap (λ x. outcome r.phase r.best r.stars r.statements.items len x (parses c) c.tail) (sym (append_assoc here bad opened))
 
 -- a comment that isn't closed is found before the bytes ahead
-pub outcome-comment : (phase : Phase) (best : Option Found) (stars : Stars) (ss : List Statement) (len : ℕ) (k : ByteAt)
-    (bad : List Found) (ahead : List ByteAt)
-    (ws : List Parsed) (tail : List ByteAt) (best' : Option Found)
+pub outcome-comment : (phase : Phase) (best : Option FoundFault) (stars : Stars) (ss : List Statement) (len : ℕ) (k : ByteAt)
+    (bad : List FoundFault) (ahead : List ByteAt)
+    (ws : List Parsed) (tail : List ByteAt) (best' : Option FoundFault)
     → best' ≡ lesser best (least (comment_faults k))
     → outcome phase best' stars ss len (bad ++ flat_map comment_faults ahead) ws tail
     ≡ outcome phase best stars ss len (bad ++ flat_map comment_faults (k ∷ ahead)) ws tail
@@ -114,7 +115,7 @@ pub in_front-nil : (c : Cut) → in_front [] c ≡ c
 in_front-nil c = onto-nil c.pieces c.tail
 
 -- a begun statement goes on
-pub with_ahead-push : (r : Reading) (piece : List ByteAt) (k : ByteAt) (best' : Option Found) (len : ℕ) (bad : List Found) (ahead : List ByteAt)
+pub with_ahead-push : (r : Reading) (piece : List ByteAt) (k : ByteAt) (best' : Option FoundFault) (len : ℕ) (bad : List FoundFault) (ahead : List ByteAt)
     → best' ≡ lesser r.best (least (comment_faults k)) → (k.byte ≡ 59 → ⊥)
     → with_ahead (record r { best = best' }) (piece ++ k ∷ []) len bad ahead ≡ with_ahead r piece len bad (k ∷ ahead)
 with_ahead-push r piece k best' len bad ahead b ne =

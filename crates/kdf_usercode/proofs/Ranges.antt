@@ -4,11 +4,11 @@ use Rattle.std.proofs.Common.{ap, ◌∙◌}
 use Rattle.std.proofs.lemmas.List.{at_drop_more, map-append, get_or-drop, drop-drop}
 use Rattle.kdf_usercode.specs.declared.fault.DeckFault.{DeckFault}
 use Rattle.kdf_usercode.specs.declared.range.Range.{Range}
-use Rattle.kdf_usercode.specs.Faults.{Found, lesser, least, founds}
+use Rattle.kdf_usercode.specs.Faults.{FoundFault, lesser, least, founds}
 use Rattle.kdf_usercode.specs.Range.{range_fault, range_faults}
 use Rattle.kdf_usercode.proofs.Least.{least-front}
 
-pub ranges-step : (best best' : Option Found) (place i n : ℕ) (rs : List Range) (ns : List ℕ) (d : Range)
+pub ranges-step : (best best' : Option FoundFault) (place i n : ℕ) (rs : List Range) (ns : List ℕ) (d : Range)
     → i < length rs → n ≡ get_or ns i 0
     → best' ≡ lesser best (least (founds place (range_fault (get_or rs i d) n)))
     → lesser best' (least (founds place (range_faults (drop (i + 1) rs) (drop (i + 1) ns)))) ≡ lesser best
@@ -47,7 +47,7 @@ ranges-apart a b ns e =
     nil-append (range_faults a ns) (range_faults b (drop (length a) ns)) (sym (range_faults-append a b ns) ∙ e)
 
 -- the faults of two parts, one after the other
-pub ranges-then : (best : Option Found) (place : ℕ) (a b : List Range) (ns : List ℕ)
+pub ranges-then : (best : Option FoundFault) (place : ℕ) (a b : List Range) (ns : List ℕ)
     → lesser (lesser best (least (founds place (range_faults a ns)))) (least (founds place (range_faults b (drop (length a) ns)))) ≡ lesser best
     (least (founds place (range_faults (a ++ b) ns)))
 ranges-then best place a b ns =
@@ -55,7 +55,7 @@ ranges-then best place a b ns =
     ∙ ap (λ x. lesser best (least x)) (sym (map-append _ (range_faults a ns) (range_faults b (drop (length a) ns)))
     ∙ ap (founds place) (sym (range_faults-append a b ns)))
 
-pub three-parts : (best first second third : Option Found) (place : ℕ) (a b c : List Range) (ns ms ls : List ℕ)
+pub three-parts : (best first second third : Option FoundFault) (place : ℕ) (a b c : List Range) (ns ms ls : List ℕ)
     → first ≡ lesser best (least (founds place (range_faults a ns))) → ms ≡ drop (length a) ns
     → second ≡ lesser first (least (founds place (range_faults b ms))) → ls ≡ drop (length b) ms
     → third ≡ lesser second (least (founds place (range_faults c ls)))
@@ -67,7 +67,7 @@ three-parts best first second third place a b c ns ms ls f m s l t =
     rw (f, m) (ranges-then best place a (b ++ c) ns) in
     t ∙ one ∙ two
 
-pub one-more : (best first : Option Found) (place n : ℕ) (r : Range) (rs : List Range) (ns ms : List ℕ) (result : Option Found)
+pub one-more : (best first : Option FoundFault) (place n : ℕ) (r : Range) (rs : List Range) (ns ms : List ℕ) (result : Option FoundFault)
     → first ≡ lesser best (least (founds place (range_fault r n))) → n ≡ slice_index ns 0 → ms ≡ drop 1 ns
     → result ≡ lesser first (least (founds place (range_faults rs ms)))
     → result ≡ lesser best (least (founds place (range_faults (r ∷ rs) ns)))

@@ -20,7 +20,7 @@ use Rattle.kdf_usercode.specs.declared.stores.Suffix.{Suffix}
 use Rattle.kdf_usercode.specs.declared.stores.Suffix.TheVariants as suffixes
 use Rattle.kdf_usercode.specs.declared.forms.Form.{Form}
 use Rattle.kdf_usercode.specs.declared.forms.Form.TheVariants as forms
-use Rattle.kdf_usercode.specs.Faults.{Found, founds}
+use Rattle.kdf_usercode.specs.Faults.{FoundFault, founds}
 use Rattle.kdf_usercode.specs.Parsed.{Parsed, parsed, statements_in}
 use Rattle.kdf_usercode.specs.Pieces.{codes_of}
 use Rattle.kdf_usercode.specs.Shape.{shape}
@@ -49,7 +49,7 @@ founds-none : (place : ℕ) (fs : List DeckFault) → founds place fs ≡ [] →
 founds-none place [] e = refl
 founds-none place (f ∷ fs) e = absurd cc
 
-pub none-there : (fs gs : List Found) → fs ++ gs ≡ [] → (fs ≡ []) × (gs ≡ [])
+pub none-there : (fs gs : List FoundFault) → fs ++ gs ≡ [] → (fs ≡ []) × (gs ≡ [])
 none-there [] gs e = (refl, e)
 none-there (f ∷ fs) gs e = absurd cc
 
@@ -318,7 +318,7 @@ are-in-range phase len (w ∷ ws) tail f e =
     subst AreInRange (sym g.statements)
     (what-fits phase.stage g.form w.numbers w.text g.is g.here.ranges g.here.text, are-in-range (phase_with phase g.form) len ws tail f.1 g.later)
 
-end-sound : (b : Bool) (front back : List Found) (last : Found) → cond b front (back ++ last ∷ []) ≡ []
+end-sound : (b : Bool) (front back : List FoundFault) (last : FoundFault) → cond b front (back ++ last ∷ []) ≡ []
     → b ≡ true
 end-sound true front back last e = refl
 end-sound false front back last e = let h = none-there back (last ∷ []) e in absurd cc

@@ -6,7 +6,7 @@ use Rattle.kdf_usercode.specs.declared.statement.Deck.{Deck}
 use Rattle.kdf_usercode.specs.declared.statement.Statement.{Statement}
 use Rattle.kdf_usercode.specs.declared.phase.Stage.TheVariants.{Heading}
 use Rattle.kdf_usercode.specs.declared.stars.Stars.TheVariants.{AfterOther}
-use Rattle.kdf_usercode.specs.Faults.{Found}
+use Rattle.kdf_usercode.specs.Faults.{FoundFault}
 use Rattle.kdf_usercode.specs.Comments.{kept}
 use Rattle.kdf_usercode.specs.Parsed.{parses}
 use Rattle.kdf_usercode.specs.Pieces.{cut}
@@ -47,7 +47,7 @@ are-well-formed text short e = record {
   once = once text e;
 }
 
-ok-verdict : (o : Option Found) (ss items : List Statement) → verdict o ss ≡ Ok items
+ok-verdict : (o : Option FoundFault) (ss items : List Statement) → verdict o ss ≡ Ok items
     → (o ≡ None) × (ss ≡ items)
 ok-verdict None ss items e = (refl, cc)
 ok-verdict (Some f) ss items e = absurd cc

@@ -17,7 +17,7 @@ use Rattle.kdf_usercode.specs.declared.constants.ValueForm.TheVariants.{Up, Down
 use Rattle.kdf_usercode.specs.Characters.{are_characters, characters_word}
 use Rattle.kdf_usercode.specs.Bytes.{letter_b, letter_p}
 use Rattle.kdf_usercode.specs.Octal.{all_octal, octal}
-use Rattle.kdf_usercode.specs.Parse.{◌>>=◌, ◌or◌, opt_map, behind, row_in, strip}
+use Rattle.kdf_usercode.specs.Parse.{◌>>=◌, ◌or◌, opt_map, text_behind, row_in, strip}
 use Rattle.kdf_usercode.specs.Range.{between, range_fault}
 use Rattle.kdf_usercode.specs.Stores.{addressed, store_ranges, named_of}
 
@@ -57,13 +57,13 @@ triple_form shape = do
 -- `B` and octal digits
 unfoldable pub octal_value : List ℕ → List ℕ → Option ValueForm
 octal_value shape text =
-    if bytes_eq shape (codes "B0") && all_octal (behind letter_b text) then Some Octal else None
+    if bytes_eq shape (codes "B0") && all_octal (text_behind letter_b text) then Some Octal else None
 
 -- `P` and characters
 unfoldable pub characters_value : List ℕ → List ℕ → Option ValueForm
 characters_value shape text = do
   rest ← strip (codes "P") shape
-  if are_characters (behind letter_p text) then Some Characters else None
+  if are_characters (text_behind letter_p text) then Some Characters else None
 
 -- constants that are one number
 abbrev pub value_names : List (List ℕ × ValueForm)
@@ -123,8 +123,8 @@ value_ranges Characters = []
 value_ranges (Triple c i m) = item_ranges c ++ (item_ranges i ++ item_ranges m)
 
 abbrev pub text_value_faults : ValueForm → List ℕ → List DeckFault
-text_value_faults Octal text = range_fault octal_word_range (octal (behind letter_b text))
-text_value_faults Characters text = range_fault characters_range (length (behind letter_p text))
+text_value_faults Octal text = range_fault octal_word_range (octal (text_behind letter_b text))
+text_value_faults Characters text = range_fault characters_range (length (text_behind letter_p text))
 text_value_faults form text = []
 
 abbrev pub is_triple : ValueForm → Bool
@@ -150,6 +150,6 @@ triple_of c i m ns =
 abbrev pub value_of : ValueForm → List ℕ → List ℕ → Value
 value_of Up ns text = values.Number (slice_index ns 0)
 value_of Down ns text = values.Number ((2 ^ 48 - slice_index ns 0) % 2 ^ 48)
-value_of Octal ns text = values.Number (octal (behind letter_b text))
-value_of Characters ns text = values.Number (characters_word (behind letter_p text))
+value_of Octal ns text = values.Number (octal (text_behind letter_b text))
+value_of Characters ns text = values.Number (characters_word (text_behind letter_p text))
 value_of (Triple c i m) ns text = triple_of c i m ns

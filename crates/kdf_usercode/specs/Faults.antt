@@ -1,7 +1,7 @@
 -- The order of a deck's faults: the least place, and at one place the least number.
 use Rattle.std.specs.Prelude.{ℕ, List, Option, map}
 use lib.Chars.{codes}
-use Rattle.kdf_fault.specs.declared.found.Found.{Found as FoundOf}
+use Rattle.kdf_fault.specs.declared.found.Found.{Found}
 use Rattle.kdf_fault.specs.Faults as faults_in
 use Rattle.kdf_usercode.specs.declared.fault.DeckFault.{DeckFault}
 use Rattle.kdf_usercode.specs.declared.fault.DeckFault.TheVariants.{BadByte, CommentOpen, NoSemicolon, UnknownOrder, Floating, BadNumber, QRange, ConstantRange}
@@ -9,8 +9,8 @@ use Rattle.kdf_usercode.specs.declared.fault.DeckFault.TheVariants.{BadHeading, 
 use Rattle.kdf_usercode.specs.declared.fault.DeckFault.TheVariants.{VRange, YRange, ShortLoopFar, TooLarge}
 
 -- a fault of a deck at its place
-abbrev pub Found : Type 0
-Found = FoundOf DeckFault
+abbrev pub FoundFault : Type 0
+FoundFault = Found DeckFault
 
 -- At one place the least number comes first.
 abbrev pub number_of : DeckFault → ℕ
@@ -35,39 +35,39 @@ number_of ShortLoopFar = 18
 number_of TooLarge = 19
 
 -- as it is printed
-abbrev pub name_of : DeckFault → List ℕ
-name_of BadByte = codes "BadByte"
-name_of CommentOpen = codes "CommentOpen"
-name_of NoSemicolon = codes "NoSemicolon"
-name_of UnknownOrder = codes "UnknownOrder"
-name_of Floating = codes "Floating"
-name_of BadNumber = codes "BadNumber"
-name_of QRange = codes "QRange"
-name_of ConstantRange = codes "ConstantRange"
-name_of BadHeading = codes "BadHeading"
-name_of NoFinish = codes "NoFinish"
-name_of AfterFinish = codes "AfterFinish"
-name_of ReferenceTwice = codes "ReferenceTwice"
-name_of ReferenceMissing = codes "ReferenceMissing"
-name_of PartTwice = codes "PartTwice"
-name_of PartMissing = codes "PartMissing"
-name_of VRange = codes "VRange"
-name_of YRange = codes "YRange"
-name_of ShortLoopFar = codes "ShortLoopFar"
-name_of TooLarge = codes "TooLarge"
+abbrev pub deck_fault_name : DeckFault → List ℕ
+deck_fault_name BadByte = codes "BadByte"
+deck_fault_name CommentOpen = codes "CommentOpen"
+deck_fault_name NoSemicolon = codes "NoSemicolon"
+deck_fault_name UnknownOrder = codes "UnknownOrder"
+deck_fault_name Floating = codes "Floating"
+deck_fault_name BadNumber = codes "BadNumber"
+deck_fault_name QRange = codes "QRange"
+deck_fault_name ConstantRange = codes "ConstantRange"
+deck_fault_name BadHeading = codes "BadHeading"
+deck_fault_name NoFinish = codes "NoFinish"
+deck_fault_name AfterFinish = codes "AfterFinish"
+deck_fault_name ReferenceTwice = codes "ReferenceTwice"
+deck_fault_name ReferenceMissing = codes "ReferenceMissing"
+deck_fault_name PartTwice = codes "PartTwice"
+deck_fault_name PartMissing = codes "PartMissing"
+deck_fault_name VRange = codes "VRange"
+deck_fault_name YRange = codes "YRange"
+deck_fault_name ShortLoopFar = codes "ShortLoopFar"
+deck_fault_name TooLarge = codes "TooLarge"
 
 -- the earlier of two, where there are any
-abbrev pub lesser : Option Found → Option Found → Option Found
+abbrev pub lesser : Option FoundFault → Option FoundFault → Option FoundFault
 lesser x y = faults_in.lesser number_of x y
 
 -- the first of the faults
-abbrev pub least : List Found → Option Found
+abbrev pub least : List FoundFault → Option FoundFault
 least fs = faults_in.least number_of fs
 
 -- a fault at a place
-abbrev pub found : DeckFault → ℕ → Found
+abbrev pub found : DeckFault → ℕ → FoundFault
 found fault place = record { fault = fault; place = place }
 
 -- these faults at one place
-abbrev pub founds : ℕ → List DeckFault → List Found
+abbrev pub founds : ℕ → List DeckFault → List FoundFault
 founds place fs = map (λ f. record { fault = f; place = place }) fs

@@ -9,7 +9,7 @@ use Rattle.kdf_usercode.specs.declared.phase.Phase.{Phase}
 use Rattle.kdf_usercode.specs.declared.statement.Statement.{Statement}
 use Rattle.kdf_usercode.specs.Bytes.{line_end, opening}
 use Rattle.kdf_usercode.specs.Comments.{kept}
-use Rattle.kdf_usercode.specs.Faults.{Found, least, found, founds}
+use Rattle.kdf_usercode.specs.Faults.{FoundFault, least, found, founds}
 use Rattle.kdf_usercode.specs.Forms.{ranges_of, text_faults, what_of}
 use Rattle.kdf_usercode.specs.Orders.{formless}
 use Rattle.kdf_usercode.specs.Parsed.{Parsed, parses}
@@ -23,16 +23,16 @@ use Rattle.kdf_usercode.specs.Range.{range_faults}
 abbrev pub is_deck_byte : ℕ → Bool
 is_deck_byte byte = byte == line_end || (nat_le 0x20 byte && nat_le byte 0x7e)
 
-abbrev pub byte_faults : ℕ → ℕ → List Found
+abbrev pub byte_faults : ℕ → ℕ → List FoundFault
 byte_faults at byte = if is_deck_byte byte then [] else found faults.BadByte at ∷ []
 
 -- the faults of all bytes, those in comments too
-abbrev pub bytes_faults : ℕ → List ℕ → List Found
+abbrev pub bytes_faults : ℕ → List ℕ → List FoundFault
 bytes_faults at [] = []
 bytes_faults at (byte ∷ rest) = byte_faults at byte ++ bytes_faults (at + 1) rest
 
 -- A `(` that stays is one without a later `)`.
-abbrev pub comment_faults : ByteAt → List Found
+abbrev pub comment_faults : ByteAt → List FoundFault
 comment_faults b = if b.byte == opening then found faults.CommentOpen b.at ∷ [] else []
 
 -- ---- a statement, in its phase
@@ -60,7 +60,7 @@ with_form phase s None = []
 with_form phase s (Some form) = said phase s.place form s.numbers s.text ∷ []
 
 -- After FINISH there is nothing to say but that something follows.
-unfoldable pub statement_faults : Phase → Parsed → List Found
+unfoldable pub statement_faults : Phase → Parsed → List FoundFault
 statement_faults phase s =
     founds s.place (if is_ended phase then faults.AfterFinish ∷ [] else form_faults phase s s.form)
 
@@ -73,17 +73,17 @@ statements_of phase s = with_form phase s s.form
 -- ---- the deck
 
 -- a fault at the first of these bytes, where there are any
-abbrev pub at_first : DeckFault → List ByteAt → List Found
+abbrev pub at_first : DeckFault → List ByteAt → List FoundFault
 at_first fault [] = []
 at_first fault (b ∷ bs) = found fault b.at ∷ []
 
 -- the faults at the end of the deck: `tail` is what stands after the last `;`
-abbrev pub end_faults : Phase → ℕ → List ByteAt → List Found
+abbrev pub end_faults : Phase → ℕ → List ByteAt → List FoundFault
 end_faults phase len tail =
     if is_ended phase then at_first faults.AfterFinish tail
     else at_first faults.NoSemicolon tail ++ found faults.NoFinish len ∷ []
 
-abbrev pub faults_from : Phase → ℕ → List Parsed → List ByteAt → List Found
+abbrev pub faults_from : Phase → ℕ → List Parsed → List ByteAt → List FoundFault
 faults_from phase len [] tail = end_faults phase len tail
 faults_from phase len (s ∷ ss) tail =
     statement_faults phase s ++ faults_from (phase_after phase s) len ss tail
@@ -93,24 +93,24 @@ statements_from phase [] = []
 statements_from phase (s ∷ ss) = statements_of phase s ++ statements_from (phase_after phase s) ss
 
 -- all faults of a deck
-abbrev pub faults_of : List ℕ → List Found
+abbrev pub faults_of : List ℕ → List FoundFault
 faults_of text =
     let c = cut (kept text) in
     (bytes_faults 0 text ++ flat_map comment_faults (kept text))
     ++ faults_from start (length text) (parses c) c.tail
 
 -- the first of them
-abbrev pub early : List ℕ → Option Found
+abbrev pub early : List ℕ → Option FoundFault
 early text = least (faults_of text)
 
 -- what a deck without such a fault says
 abbrev pub statements : List ℕ → List Statement
 statements text = statements_from start (parses (cut (kept text)))
 
-abbrev pub verdict : Option Found → List Statement → Result (List Statement) Found
+abbrev pub verdict : Option FoundFault → List Statement → Result (List Statement) FoundFault
 verdict None ss = Ok ss
 verdict (Some f) ss = Err f
 
 -- the statements of a deck, or its first fault
-abbrev pub deck : List ℕ → Result (List Statement) Found
+abbrev pub deck : List ℕ → Result (List Statement) FoundFault
 deck text = verdict (early text) (statements text)

@@ -14,7 +14,7 @@ use Rattle.kdf_usercode.specs.declared.range.Range.{Range}
 use Rattle.kdf_usercode.specs.Bytes.{letter_b}
 use Rattle.kdf_usercode.specs.Octal.{all_octal, octal}
 use Rattle.kdf_usercode.specs.OrderNames.{order_names, refused_names}
-use Rattle.kdf_usercode.specs.Parse.{◌or◌, behind, row_in}
+use Rattle.kdf_usercode.specs.Parse.{◌or◌, text_behind, row_in}
 use Rattle.kdf_usercode.specs.Range.{between, q_range, range_fault}
 
 -- ---- names
@@ -22,7 +22,7 @@ use Rattle.kdf_usercode.specs.Range.{between, q_range, range_fault}
 -- `SETB` and octal digits
 unfoldable pub octal_order : List ℕ → List ℕ → Option OrderForm
 octal_order shape text =
-    if bytes_eq shape (codes "SETB0") && all_octal (behind letter_b text) then Some SetOctal else None
+    if bytes_eq shape (codes "SETB0") && all_octal (text_behind letter_b text) then Some SetOctal else None
 
 -- the order of a statement, by its shape and its bytes
 unfoldable pub order_form : List ℕ → List ℕ → Option OrderForm
@@ -77,7 +77,7 @@ order_ranges SetDown = down_range ∷ []
 order_ranges SetOctal = []
 
 abbrev pub octal_order_faults : OrderForm → List ℕ → List DeckFault
-octal_order_faults SetOctal text = range_fault octal_set_range (octal (behind letter_b text))
+octal_order_faults SetOctal text = range_fault octal_set_range (octal (text_behind letter_b text))
 octal_order_faults form text = []
 
 -- ---- what they say
@@ -96,4 +96,4 @@ order_of ExitNone ns text = orders.Exit 0
 order_of Exit ns text = orders.Exit (slice_index ns 0)
 order_of SetUp ns text = orders.Set (slice_index ns 0)
 order_of SetDown ns text = orders.Set ((65536 - slice_index ns 0) % 65536)
-order_of SetOctal ns text = orders.Set (octal (behind letter_b text))
+order_of SetOctal ns text = orders.Set (octal (text_behind letter_b text))

@@ -30,6 +30,6 @@ strip prefix text =
     then Some (drop (length prefix) text) else None
 
 -- what stands after the first such byte
-abbrev pub behind : ℕ → List ℕ → List ℕ
-behind c [] = []
-behind c (x ∷ xs) = if x == c then xs else behind c xs
+abbrev pub text_behind : ℕ → List ℕ → List ℕ
+text_behind c [] = []
+text_behind c (x ∷ xs) = if x == c then xs else text_behind c xs

@@ -10,7 +10,7 @@ use Rattle.kdf_usercode.specs.declared.stars.Stars.{Stars}
 use Rattle.kdf_usercode.specs.declared.statement.Deck.{Deck}
 use Rattle.kdf_usercode.specs.declared.statement.Statement.{Statement}
 use Rattle.kdf_usercode.specs.declared.reading.Reading.{Reading}
-use Rattle.kdf_usercode.specs.Faults.{Found, lesser, least, found, founds}
+use Rattle.kdf_usercode.specs.Faults.{FoundFault, lesser, least, found, founds}
 use Rattle.kdf_usercode.specs.Grammar.{comment_faults, formed_faults, said, statement_faults, phase_after, statements_of, faults_from, statements_from, verdict}
 use Rattle.kdf_usercode.specs.Parsed.{Parsed, parses}
 use Rattle.kdf_usercode.specs.Phase.{phase_with}
@@ -18,14 +18,14 @@ use Rattle.kdf_usercode.specs.Pieces.{in_front, cut}
 use Rattle.kdf_usercode.specs.Thinned.{thinned, stars_behind}
 
 -- What a function returned is this, unless memory ran out.
-abbrev pub Gives : Result Deck DeckError → ℕ → Result (List Statement) Found → Type 0
+abbrev pub Gives : Result Deck DeckError → ℕ → Result (List Statement) FoundFault → Type 0
 Gives (Ok d) len due = (due ≡ Ok d.statements.items) × (d.length ≡ len)
 Gives (Err errors.Memory) len due = Unit {0}
 Gives (Err (errors.Fault fault place)) len due = due ≡ Err (found fault place)
 
 -- The phase, and these faults and statements more. The statements are only kept up while there is no
 -- fault, and of those only what isn't left out.
-pub record Gains (old new : Reading) (next : Phase) (fs : List Found) (ss : List Statement)
+pub record Gains (old new : Reading) (next : Phase) (fs : List FoundFault) (ss : List Statement)
     : Type 0 where
   pub phase : new.phase ≡ next
   pub best : new.best ≡ lesser old.best (least fs)
@@ -46,26 +46,26 @@ Reads old new s =
 -- What comes of a deck that was read so far, with the first fault and the statements of that part.
 -- `front` are faults of bytes still to come, `ahead` the statements still to come, and `tail` what
 -- stands after the last `;`.
-abbrev pub outcome : Phase → Option Found → Stars → List Statement → ℕ
-    → List Found → List Parsed → List ByteAt → Result (List Statement) Found
+abbrev pub outcome : Phase → Option FoundFault → Stars → List Statement → ℕ
+    → List FoundFault → List Parsed → List ByteAt → Result (List Statement) FoundFault
 outcome phase best stars ss len front ahead tail =
     verdict (lesser best (least (front ++ faults_from phase len ahead tail)))
     (ss ++ thinned stars (statements_from phase ahead))
 
 -- the same, of a reader
-abbrev pub comes : Reading → ℕ → List Found → List Parsed → List ByteAt
-    → Result (List Statement) Found
+abbrev pub comes : Reading → ℕ → List FoundFault → List Parsed → List ByteAt
+    → Result (List Statement) FoundFault
 comes r len front ahead tail = outcome r.phase r.best r.stars r.statements.items len front ahead tail
 
 -- these statements were read, whatever is still to come
 abbrev pub ReadsAll : Reading → Reading → List Parsed → Type 0
-ReadsAll old new ps = (len : ℕ) (front : List Found) (ahead : List Parsed) (tail : List ByteAt) →
+ReadsAll old new ps = (len : ℕ) (front : List FoundFault) (ahead : List Parsed) (tail : List ByteAt) →
     comes new len front ahead tail ≡ comes old len front (ps ++ ahead) tail
 
 -- What comes of it where `piece` is the begun statement, `bad` are the faults of all bytes still to
 -- come, and `ahead` are those of them that stay.
-abbrev pub with_ahead : Reading → List ByteAt → ℕ → List Found → List ByteAt
-    → Result (List Statement) Found
+abbrev pub with_ahead : Reading → List ByteAt → ℕ → List FoundFault → List ByteAt
+    → Result (List Statement) FoundFault
 with_ahead r piece len bad ahead =
     let c = in_front piece (cut ahead) in
     comes r len (bad ++ flat_map comment_faults ahead) (parses c) c.tail

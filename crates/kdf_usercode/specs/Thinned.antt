@@ -7,7 +7,7 @@ use Rattle.kdf_usercode.specs.declared.stars.Stars.TheVariants.{Every, AfterStar
 use Rattle.kdf_usercode.specs.declared.statement.Statement.{Statement}
 use Rattle.kdf_usercode.specs.declared.statement.What.{What}
 use Rattle.kdf_usercode.specs.declared.statement.What.TheVariants.{Star}
-use Rattle.kdf_usercode.specs.Faults.{Found}
+use Rattle.kdf_usercode.specs.Faults.{FoundFault}
 use Rattle.kdf_usercode.specs.Grammar.{early, statements, verdict}
 
 abbrev pub is_star : What → Bool
@@ -46,5 +46,5 @@ stars_behind stars [] = stars
 stars_behind stars (s ∷ ss) = stars_behind (stars_after stars s.what) ss
 
 -- what is kept of the statements of a deck, or its first fault
-abbrev pub thinned_deck : Stars → List ℕ → Result (List Statement) Found
+abbrev pub thinned_deck : Stars → List ℕ → Result (List Statement) FoundFault
 thinned_deck stars text = verdict (early text) (thinned stars (statements text))

@@ -9,7 +9,7 @@ ghost use Rattle.kdf_usercode.specs.Constants.{address_item, number_item, item_f
 use crate::characters::{are_characters, characters_word};
 use crate::fault::DeckFault;
 use crate::octal::{all_octal, octal};
-use crate::parse::{behind, row_in, strip};
+use crate::parse::{row_in, strip, text_behind};
 use crate::range::{Range, behind_first, number, short_at, with_range, with_ranges};
 use crate::shape::MANY;
 use crate::statement::{Item, Value};
@@ -144,7 +144,7 @@ fn triple_form(shape: &[u8]) -> Option<ValueForm>
 fn octal_value(shape: &[u8], text: &[u8]) -> Option<ValueForm>
     ensures { result ≡ octal_value shape.now text.now }
 {
-    if shape == b"B0".as_slice() && all_octal(behind(text, b'B')) {
+    if shape == b"B0".as_slice() && all_octal(text_behind(text, b'B')) {
         Some(ValueForm::Octal)
     } else {
         None
@@ -156,7 +156,7 @@ fn characters_value(shape: &[u8], text: &[u8]) -> Option<ValueForm>
     ensures { result ≡ characters_value shape.now text.now }
 {
     let _characters = strip(shape, b"P")?;
-    if are_characters(behind(text, b'P')) {
+    if are_characters(text_behind(text, b'P')) {
         Some(ValueForm::Characters)
     } else {
         None
@@ -274,12 +274,12 @@ pub fn with_value_text(
     ensures { result ≡ lesser best (least (founds place (text_value_faults form text.now))) }
 {
     match form {
-        ValueForm::Octal => with_range(best, place, OCTAL_WORD, octal(behind(text, b'B'))),
+        ValueForm::Octal => with_range(best, place, OCTAL_WORD, octal(text_behind(text, b'B'))),
         ValueForm::Characters => with_range(
             best,
             place,
             CHARACTERS,
-            behind(text, b'P').len() as u64,
+            text_behind(text, b'P').len() as u64,
         ),
         _ => best,
     }
@@ -342,10 +342,10 @@ pub fn value_of(form: ValueForm, numbers: &[u64], text: &[u8]) -> Value
             word: negative(number(numbers, 0)),
         },
         ValueForm::Octal => Value::Number {
-            word: word(octal(behind(text, b'B'))),
+            word: word(octal(text_behind(text, b'B'))),
         },
         ValueForm::Characters => Value::Number {
-            word: characters_word(behind(text, b'P')),
+            word: characters_word(text_behind(text, b'P')),
         },
         ValueForm::Triple { c, i, m } => triple_of(c, i, m, numbers),
     }

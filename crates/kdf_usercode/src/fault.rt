@@ -1,7 +1,7 @@
 //! What can be wrong with a deck.
 
 ghost use Rattle.std.specs.Prelude.{◌≡◌};
-ghost use Rattle.kdf_usercode.specs.Faults.{number_of, name_of};
+ghost use Rattle.kdf_usercode.specs.Faults.{number_of, deck_fault_name};
 
 use kdf_fault::Numbered;
 use std::alloc::{AllocError, AllocFailed};
@@ -54,7 +54,7 @@ pub enum DeckFault {
 impl DeckFault {
     /// The name of the fault, as it is printed.
     pub fn name(&self) -> &'static str
-        ensures { result.now ≡ name_of self.now }
+        ensures { result.now ≡ deck_fault_name self.now }
     {
         match self {
             DeckFault::BadByte => "BadByte",

@@ -8,7 +8,7 @@ ghost use Rattle.kdf_usercode.specs.Orders.{order_form, octal_order, formless, o
 use crate::fault::DeckFault;
 use crate::octal::{all_octal, octal};
 use crate::order_names::{ORDERS, OrderForm, REFUSED};
-use crate::parse::{behind, row_in};
+use crate::parse::{row_in, text_behind};
 use crate::range::{Q, Range, number, q_at, short, with_range};
 use kdf_fault::Found;
 use kdf_syllable::{Amount, Order};
@@ -59,7 +59,7 @@ pub const OCTAL_SET: Range = Range {
 fn octal_order(shape: &[u8], text: &[u8]) -> Option<OrderForm>
     ensures { result ≡ octal_order shape.now text.now }
 {
-    if shape == b"SETB0".as_slice() && all_octal(behind(text, b'B')) {
+    if shape == b"SETB0".as_slice() && all_octal(text_behind(text, b'B')) {
         Some(OrderForm::SetOctal)
     } else {
         None
@@ -114,7 +114,7 @@ pub fn with_octal_order(
     ensures { result ≡ lesser best (least (founds place (octal_order_faults form text.now))) }
 {
     match form {
-        OrderForm::SetOctal => with_range(best, place, OCTAL_SET, octal(behind(text, b'B'))),
+        OrderForm::SetOctal => with_range(best, place, OCTAL_SET, octal(text_behind(text, b'B'))),
         _ => best,
     }
 }
@@ -191,6 +191,6 @@ pub fn order_of(form: OrderForm, numbers: &[u64], text: &[u8]) -> Order
         OrderForm::Exit => exit(n),
         OrderForm::SetUp => set(short(n)),
         OrderForm::SetDown => set(negative(n)),
-        OrderForm::SetOctal => set(short(octal(behind(text, b'B')))),
+        OrderForm::SetOctal => set(short(octal(text_behind(text, b'B')))),
     }
 }

@@ -2,7 +2,7 @@
 
 ghost use Rattle.std.specs.Prelude.{◌≡◌, map};
 ghost use Rattle.std.specs.Option.{option_copied};
-ghost use Rattle.kdf_usercode.specs.Parse.{row_in, strip, behind};
+ghost use Rattle.kdf_usercode.specs.Parse.{row_in, strip, text_behind};
 
 /// What the first row with this name means.
 pub fn row_in<T: Copy>(rows: &[(&str, T)], text: &[u8]) -> Option<T>
@@ -28,8 +28,8 @@ pub fn strip<'a>(text: &'a [u8], prefix: &[u8]) -> Option<&'a [u8]>
 }
 
 /// What stands after the first such byte, or nothing.
-pub fn behind(text: &[u8], byte: u8) -> &[u8]
-    ensures { result.now ≡ behind byte text.now }
+pub fn text_behind(text: &[u8], byte: u8) -> &[u8]
+    ensures { result.now ≡ text_behind byte text.now }
 {
     for (i, b) in text.iter().enumerate() {
         if *b == byte {

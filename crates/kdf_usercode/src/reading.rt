@@ -1,7 +1,7 @@
 //! A deck that is partly read.
 
 ghost use Rattle.std.specs.Prelude.{◌≡◌, ℕ, ◌<◌, ◌^◌, List, [], ◌∷◌, ◌++◌, length, OnOk, if◌then◌else◌};
-ghost use Rattle.kdf_usercode.specs.Faults.{Found as FoundFault, lesser, least, founds};
+ghost use Rattle.kdf_usercode.specs.Faults.{FoundFault, lesser, least, founds};
 ghost use Rattle.kdf_usercode.specs.Parsed.{parsed, statements_in};
 ghost use Rattle.kdf_usercode.specs.Pieces.{codes_of};
 ghost use Rattle.kdf_usercode.specs.Phase.{is_in_place};

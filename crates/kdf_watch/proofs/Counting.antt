@@ -7,7 +7,7 @@ use Rattle.std.proofs.lemmas.Bool.{cases_eq, eq-eqb, ne_eqb}
 use Rattle.std.proofs.lemmas.List.FromFn.{filter_of_map_range_with_len_more}
 use Rattle.kdf_journal.specs.declared.entry.Entry.{Entry}
 use Rattle.kdf_journal.specs.Counts.{answers, ran}
-use Rattle.kdf_journal.specs.Steps.{Note, Step, Obeys, Holds, Waits, Moves, Ends, Sets, Swaps, added, journal_of, steps}
+use Rattle.kdf_journal.specs.Steps.{Note, JournalStep, Obeys, Holds, Waits, Moves, Ends, Sets, Swaps, added, journal_of, steps}
 use Rattle.kdf_journal.proofs.Added.{ran_by, ran-added, answers_by, answers-added, answer_in_note}
 use Rattle.kdf_journal.proofs.Steps.{steps-journal_of, steps-nil}
 use Rattle.kdf_schedule.specs.declared.event.Event.{Event}
@@ -20,7 +20,7 @@ use Rattle.kdf_theory.specs.Follows.{entries_in}
 use Rattle.kdf_theory.specs.Legal.{EachMeets, IsLegal}
 use Rattle.kdf_theory.specs.Next.{lone_dispatched}
 use Rattle.kdf_theory.specs.Served.{IsTrueFor}
-use Rattle.kdf_theory.specs.Shown.{Shown}
+use Rattle.kdf_theory.specs.MachineView.{MachineView}
 use Rattle.kdf_theory.proofs.Course.OneJournal.{true_for_nil}
 use Rattle.kdf_theory.specs.Slots.{start}
 use Rattle.kdf_theory.specs.ByJournal.{own, own_after}
@@ -45,7 +45,7 @@ hits k at [] = []
 hits k at (look ∷ looks) = hits k at looks ++ hit k at look
 
 -- the looks of all steps
-abbrev pub all_looks : List Slot → List Step → List Look
+abbrev pub all_looks : List Slot → List JournalStep → List Look
 all_looks slots [] = []
 all_looks slots (s ∷ P) = looks_in slots (journal_of (s ∷ P)) s ++ all_looks slots P
 
@@ -53,7 +53,7 @@ hits-append : (k at : ℕ) (xs ys : List Look) → hits k at (xs ++ ys) ≡ hits
 hits-append k at [] ys = sym (append-nil (hits k at ys))
 hits-append k at (x ∷ xs) ys = ap (λ (ns : List ℕ). ns ++ hit k at x) (hits-append k at xs ys) ∙ append_assoc (hits k at ys) (hits k at xs) (hit k at x)
 
-all-append : (slots : List Slot) (R P : List Step) → all_looks slots (R ++ P) ≡ looks slots R P ++ all_looks slots P
+all-append : (slots : List Slot) (R P : List JournalStep) → all_looks slots (R ++ P) ≡ looks slots R P ++ all_looks slots P
 all-append slots [] P = refl
 all-append slots (s ∷ R) P =
     ap (λ (ls : List Look). looks_in slots (journal_of (s ∷ R ++ P)) s ++ ls) (all-append slots R P)
@@ -64,28 +64,29 @@ module _ (sees : Look → Bool → Type 0) (k at : ℕ) (tells : (look : Look) (
   hits-unseen [] u = refl
   hits-unseen (l ∷ ls) u = ap₂ (λ (ns : List ℕ) (b : Bool). ns ++ cond b (l.ran ∷ []) []) (hits-unseen ls u.1) (sym (tells l false u.0))
 
-  older : (slots : List Slot) (R P : List Step) → AreUnseen sees (looks slots R P) → hits k at (all_looks slots (R ++ P)) ≡ hits k at (all_looks slots P)
+  older : (slots : List Slot) (R P : List JournalStep) → AreUnseen sees (looks slots R P) → hits k at (all_looks slots (R ++ P)) ≡ hits k at (all_looks slots P)
   older slots R P u =
       ap (hits k at) (all-append slots R P)
       ∙ (hits-append k at (looks slots R P) (all_looks slots P) ∙ (ap (λ (ns : List ℕ). hits k at (all_looks slots P) ++ ns) (hits-unseen (looks slots R P) u)
       ∙ append-nil (hits k at (all_looks slots P))))
 
-  module _ (old new : Shown) (ns : List ℕ) (so_far : ns ≡ hits k at (all_looks old.slots (steps old.journal))) where
+  module _ (old new : MachineView) (ns : List ℕ) (so_far : ns ≡ hits k at (all_looks old.slots (steps old.journal))) where
     pub gone_numbers : HasGone sees old new → ns ≡ hits k at (all_looks old.slots (steps new.journal))
-    gone_numbers g = so_far ∙ sym (ap (λ (P : List Step). hits k at (all_looks old.slots P)) g.is ∙ older old.slots g.later (steps old.journal) g.unseen)
+    gone_numbers g = so_far ∙ sym (ap (λ (P : List JournalStep). hits k at (all_looks old.slots P)) g.is ∙ older old.slots g.later (steps old.journal) g.unseen)
 
     pub seen_numbers : (look : Look) → HasSeen sees old new look → ns ++ look.ran ∷ [] ≡ hits k at (all_looks old.slots (steps new.journal))
     seen_numbers look g =
         let there : look_at old.slots (journal_of (Obeys look.p g.note ∷ g.later ++ steps old.journal)) look.p ≡ look =
-        ap (λ (P : List Step). look_at old.slots (journal_of P) look.p) (sym g.is)
+        ap (λ (P : List JournalStep). look_at old.slots (journal_of P) look.p) (sym g.is)
         ∙ (ap (λ (J : List Entry). look_at old.slots J look.p) g.form ∙ sym g.look_is) in
         let last : hit k at look ≡ look.ran ∷ [] = ap (λ (b : Bool). cond b (look.ran ∷ []) []) (sym (tells look true g.seen)) in
         ap₂ (λ (xs ys : List ℕ). xs ++ ys) (so_far ∙ sym (older old.slots g.later (steps old.journal) g.unseen)) (sym last)
         ∙ (ap (λ (x : Look). hits k at (all_looks old.slots (g.later ++ steps old.journal)) ++ hit k at x) (sym there)
-        ∙ ap (λ (P : List Step). hits k at (all_looks old.slots P)) (sym g.is))
+        ∙ ap (λ (P : List JournalStep). hits k at (all_looks old.slots P)) (sym g.is))
 
 -- a run that was stopped has fewer calls left
-pub less_seen : (sees : Look → Bool → Type 0) (events : List Event) (c d : Cursor) (old new : Shown) (look : Look) → IsUpTo events c old → IsUpTo events d new
+pub less_seen : (sees : Look → Bool → Type 0) (events : List Event) (c d : Cursor) (old new : MachineView) (look : Look) → IsUpTo events c old
+    → IsUpTo events d new
     → HasSeen sees old new look → length (calls_left events d) < length (calls_left events c)
 less_seen sees events c d old new look a b g =
     omega (
@@ -100,7 +101,7 @@ less_seen sees events c d old new look a b g =
       length-append g.later (steps old.journal),
     )
   where
-    count : (P : List Step) → length (answered P) ≡ length P
+    count : (P : List JournalStep) → length (answered P) ≡ length P
     count [] = refl
     count (s ∷ P) = omega (arith, length-append (answered P) (call_of s ∷ []), count P)
 
@@ -137,7 +138,7 @@ picked-same f g (suc n) e =
     ∙ (sym (picked-more g n) ∙ ap (picked g) (sym one))))
 
 -- a step in which program k doesn't obey
-stops-same : (slots : List Slot) (J : List Entry) (s : Step) (k at : ℕ) → ran_by k s ≡ 0 → answers_by k s ≡ []
+stops-same : (slots : List Slot) (J : List Entry) (s : JournalStep) (k at : ℕ) → ran_by k s ≡ 0 → answers_by k s ≡ []
     → stops_of slots (added J s) k at ≡ stops_of slots J k at
 stops-same slots J s k at r a = rw (ran-added k J s, answers-added k J s, r, a, append-nil, add-zero) refl
 
@@ -160,7 +161,7 @@ stops-obeys slots J k at note l =
     ∙ (ap (λ (n : ℕ). stops_of slots J k at ++ cond (test n) (n ∷ []) []) (sym count)
     ∙ ap (λ (b : Bool). stops_of slots J k at ++ cond (b && test (ran k (added J (Obeys k note)))) (ran k (added J (Obeys k note)) ∷ []) []) (sym same))))
 
-counted_by : (slots : List Slot) (J : List Entry) (s : Step) (k at : ℕ) → IsLegal slots J
+counted_by : (slots : List Slot) (J : List Entry) (s : JournalStep) (k at : ℕ) → IsLegal slots J
     → stops_of slots (added J s) k at ≡ stops_of slots J k at ++ hits k at (looks_in slots (added J s) s)
 counted_by slots J (Obeys p note) k at l = elim (cases_eq p k) [
   | inl same ↦ rw same (stops-obeys slots J k at note l)
@@ -177,10 +178,10 @@ counted_by slots J (Ends d) k at l = stops-same slots J (Ends d) k at refl refl 
 counted_by slots J (Sets t) k at l = stops-same slots J (Sets t) k at refl refl ∙ sym (append-nil (stops_of slots J k at))
 counted_by slots J (Swaps p q) k at l = stops-same slots J (Swaps p q) k at refl refl ∙ sym (append-nil (stops_of slots J k at))
 
-legal_of : (slots : List Slot) (P : List Step) → EachMeets slots P → IsLegal slots (journal_of P)
+legal_of : (slots : List Slot) (P : List JournalStep) → EachMeets slots P → IsLegal slots (journal_of P)
 legal_of slots P m = record { in_form = ap journal_of (steps-journal_of P); each = subst (EachMeets slots) (sym (steps-journal_of P)) m }
 
-counted_over : (slots : List Slot) (P : List Step) (k at : ℕ) → EachMeets slots P → hits k at (all_looks slots P) ≡ stops_of slots (journal_of P) k at
+counted_over : (slots : List Slot) (P : List JournalStep) (k at : ℕ) → EachMeets slots P → hits k at (all_looks slots P) ≡ stops_of slots (journal_of P) k at
 counted_over slots [] k at m = refl
 counted_over slots (s ∷ P) k at m =
     hits-append k at (looks_in slots (journal_of (s ∷ P)) s) (all_looks slots P)
@@ -192,12 +193,12 @@ counted slots J k at l = counted_over slots (steps J) k at l.each ∙ ap (λ (K 
 
 -- ---- before the first event
 
-pub at_first : (events : List Event) (m : Shown) → m.journal ≡ [] → sum_by entries_in events ≤ m.room → IsUpTo events (record { event = 0; calls = 0 }) m
+pub at_first : (events : List Event) (m : MachineView) → m.journal ≡ [] → sum_by entries_in events ≤ m.room → IsUpTo events (record { event = 0; calls = 0 }) m
 at_first events m fresh room = record {
   place = omega arith;
   within = omega arith;
   follows = record {
-    in_order = ap (λ (P : List Step). answered P ++ calls_left events (record { event = 0; calls = 0 })) none;
+    in_order = ap (λ (P : List JournalStep). answered P ++ calls_left events (record { event = 0; calls = 0 })) none;
     lived = subst (EachLive (lone_dispatched m.slots)) (sym none) tt;
   };
   room = room;
@@ -210,10 +211,10 @@ pub true_first : (answers : ℕ → ℕ → Type 0) (slots : List Slot) (J : Lis
 true_first answers slots J fresh = subst (IsTrueFor answers slots) (sym fresh) (true_for_nil answers slots)
 
 pub first_numbers : (slots : List Slot) (J : List Entry) (k at : ℕ) → J ≡ [] → hits k at (all_looks slots (steps J)) ≡ []
-first_numbers slots J k at fresh = ap (λ (P : List Step). hits k at (all_looks slots P)) (ap steps fresh ∙ steps-nil)
+first_numbers slots J k at fresh = ap (λ (P : List JournalStep). hits k at (all_looks slots P)) (ap steps fresh ∙ steps-nil)
 
 -- a run that no look stopped is at its end
-pub finished_of : (sees : Look → Bool → Type 0) (events : List Event) (old new : Shown) (stop : Stop) → HasStopped sees events old new stop
+pub finished_of : (sees : Look → Bool → Type 0) (events : List Event) (old new : MachineView) (stop : Stop) → HasStopped sees events old new stop
     → ((look : Look) → stop ≡ Watched look → ⊥) → HasStopped sees events old new Finished
 finished_of sees events old new (Watched look) h other = absurd (other look refl)
 finished_of sees events old new Finished h other = h

@@ -5,7 +5,7 @@ use Rattle.std.specs.Prelude.{replicate, sum_by}
 use Rattle.std.proofs.lemmas.List.Sums.{sum_by-drop_more}
 use Rattle.kdf_journal.specs.declared.entry.Entry.{Entry}
 use Rattle.kdf_journal.specs.Counts.{calls, clock}
-use Rattle.kdf_journal.specs.Steps.{Step, Moves, Ends, Sets, Swaps, added, steps}
+use Rattle.kdf_journal.specs.Steps.{JournalStep, Moves, Ends, Sets, Swaps, added, steps}
 use Rattle.kdf_journal.proofs.Added.{calls_by, calls-added, clock_by, clock-added}
 use Rattle.kdf_journal.proofs.Steps.{steps-added}
 use Rattle.kdf_schedule.specs.declared.event.Event.{Event}
@@ -21,7 +21,7 @@ use Rattle.kdf_director.specs.Runs.{HasMadeOn}
 use Rattle.kdf_theory.specs.Follows.{Follows, IsRising, IsWhole, entries_in, time_behind}
 use Rattle.kdf_theory.specs.Legal.{IsLegal}
 use Rattle.kdf_theory.specs.Next.{any_live, lone_dispatched}
-use Rattle.kdf_theory.specs.Shown.{Shown}
+use Rattle.kdf_theory.specs.MachineView.{MachineView}
 use Rattle.kdf_theory.proofs.Course.EventsInTurn.{rises-from, rises-rest}
 use Rattle.kdf_watch.specs.declared.cursor.Cursor.{Cursor}
 use Rattle.kdf_watch.specs.Called.{HasMoved}
@@ -31,16 +31,16 @@ use Rattle.kdf_watch.specs.Entered.{HasEntered}
 use Rattle.kdf_watch.proofs.Ahead.{left-orders, left-over, left-event, left-none}
 
 -- a call more was answered
-pub follows_more : (slots : List Slot) (cs left : List Call) (c : Call) (J : List Entry) (s : Step) → Follows slots cs (c ∷ left) J → call_of s ≡ c
+pub follows_more : (slots : List Slot) (cs left : List Call) (c : Call) (J : List Entry) (s : JournalStep) → Follows slots cs (c ∷ left) J → call_of s ≡ c
     → IsLegal slots J → any_live slots J ≡ true → Follows slots cs left (added J s)
 follows_more slots cs left c J s f is legal live = record {
-  in_order = ap (λ (P : List Step). answered P ++ left) (steps-added J s)
+  in_order = ap (λ (P : List JournalStep). answered P ++ left) (steps-added J s)
       ∙ (append_assoc (answered (steps J)) (call_of s ∷ []) left ∙ (ap (λ (d : Call). answered (steps J) ++ d ∷ left) is ∙ f.in_order));
   lived = subst (EachLive (lone_dispatched slots)) (sym (steps-added J s))
       (f.lived, subst (λ (K : List Entry). any_live slots K ≡ true) (sym legal.in_form) live);
 }
 
-module _ (es : List Event) (c : Cursor) (m : Shown) (at : IsAt es c m) (lt : c.event < length es) where
+module _ (es : List Event) (c : Cursor) (m : MachineView) (at : IsAt es c m) (lt : c.event < length es) where
   orders-here : order_count (drop c.event es) ≡ orders_in (event_at es c.event) + order_count (drop (c.event + 1) es)
   orders-here = order_count-drop es c.event (Orders 0) lt
 
@@ -58,14 +58,14 @@ module _ (es : List Event) (c : Cursor) (m : Shown) (at : IsAt es c m) (lt : c.e
   fit_calls n is less = omega (arith, at.few, orders-here, is, less)
 
   -- some calls of its ORDERS
-  pub at_made : (answers : ℕ → ℕ → Type 0) (k j : ℕ) (w : Shown) → HasMadeOn answers k m w → c.calls + k ≡ j → j ≤ orders_in (event_at es c.event)
+  pub at_made : (answers : ℕ → ℕ → Type 0) (k j : ℕ) (w : MachineView) → HasMadeOn answers k m w → c.calls + k ≡ j → j ≤ orders_in (event_at es c.event)
       → IsAt es (record { event = c.event; calls = j }) w
   at_made answers k j w h is within = record {
     place = at.place;
     within = within;
     follows = record {
       in_order =
-          ap (λ (P : List Step). answered P ++ calls_left es (record { event = c.event; calls = j })) h.goes_on
+          ap (λ (P : List JournalStep). answered P ++ calls_left es (record { event = c.event; calls = j })) h.goes_on
           ∙ (ap (λ (cs : List Call). cs ++ calls_left es (record { event = c.event; calls = j })) (answered-append h.more (steps m.journal)
           ∙ ap (λ (cs : List Call). answered (steps m.journal) ++ cs) h.in_order)
           ∙ (append_assoc (answered (steps m.journal)) (replicate k AnOrder) (calls_left es (record { event = c.event; calls = j }))
@@ -81,7 +81,7 @@ module _ (es : List Event) (c : Cursor) (m : Shown) (at : IsAt es c m) (lt : c.e
     time = omega (arith, at.time, h.time);
   }
 
-  pub at_moved : (answers : ℕ → ℕ → Type 0) (j : ℕ) (w : Shown) → HasMoved answers c.calls j m w → j ≤ orders_in (event_at es c.event)
+  pub at_moved : (answers : ℕ → ℕ → Type 0) (j : ℕ) (w : MachineView) → HasMoved answers c.calls j m w → j ≤ orders_in (event_at es c.event)
       → IsAt es (record { event = c.event; calls = j }) w
   at_moved answers j w moved within = at_made answers moved.made j w moved.on moved.count within
 
@@ -101,7 +101,7 @@ module _ (es : List Event) (c : Cursor) (m : Shown) (at : IsAt es c m) (lt : c.e
     }
 
     -- where it is another
-    other : (w : Shown) (call : Call) (s : Step) → Enters m w s → calls_of (event_at es c.event) ≡ call ∷ [] → orders_in (event_at es c.event) ≡ 0
+    other : (w : MachineView) (call : Call) (s : JournalStep) → Enters m w s → calls_of (event_at es c.event) ≡ call ∷ [] → orders_in (event_at es c.event) ≡ 0
         → call_of s ≡ call → calls_by s ≡ 0 → entries_in (event_at es c.event) ≡ 1
         → clock_by (clock m.journal) s ≡ time_behind (clock m.journal) (event_at es c.event) → clock_by (clock m.journal) s ≤ 140737488355327
         → IsLegal m.slots m.journal → any_live m.slots m.journal ≡ true → IsAt es (passed c) w
@@ -118,7 +118,7 @@ module _ (es : List Event) (c : Cursor) (m : Shown) (at : IsAt es c m) (lt : c.e
       time = omega (arith, clock-added m.journal s, small);
     })
 
-    by_event : (w : Shown) (e : Event) → event_at es c.event ≡ e → IsInRange e → HasEntered m w e → IsLegal m.slots m.journal
+    by_event : (w : MachineView) (e : Event) → event_at es c.event ≡ e → IsInRange e → HasEntered m w e → IsLegal m.slots m.journal
         → any_live m.slots m.journal ≡ true → IsAt es (passed c) w
     by_event w (Orders n) is range same legal live = subst (IsAt es (passed c)) (sym same) (over n is)
     by_event w (Move d n) is range enters legal live =
@@ -134,13 +134,14 @@ module _ (es : List Event) (c : Cursor) (m : Shown) (at : IsAt es c m) (lt : c.e
         other w (ASwap p q) (Swaps p q) enters (ap calls_of is) (ap orders_in is) refl refl (ap entries_in is) (sym (ap (time_behind (clock m.journal)) is))
         at.time legal live
 
-    pub at_passed : (w : Shown) → IsInRange (event_at es c.event) → HasEntered m w (event_at es c.event) → IsLegal m.slots m.journal
+    pub at_passed : (w : MachineView) → IsInRange (event_at es c.event) → HasEntered m w (event_at es c.event) → IsLegal m.slots m.journal
         → any_live m.slots m.journal ≡ true → IsAt es (passed c) w
     at_passed w = by_event w (event_at es c.event) refl
 
 -- the run is at its end
-pub whole_early : (es : List Event) (c : Cursor) (m : Shown) → IsAt es c m → any_live m.slots m.journal ≡ false → IsWhole m.slots (calls_made es) m.journal
+pub whole_early : (es : List Event) (c : Cursor) (m : MachineView) → IsAt es c m → any_live m.slots m.journal ≡ false
+    → IsWhole m.slots (calls_made es) m.journal
 whole_early es c m at dead = record { left = calls_left es c; follows = at.follows; at_end = inr dead }
 
-pub whole_late : (es : List Event) (c : Cursor) (m : Shown) → IsAt es c m → length es ≤ c.event → IsWhole m.slots (calls_made es) m.journal
+pub whole_late : (es : List Event) (c : Cursor) (m : MachineView) → IsAt es c m → length es ≤ c.event → IsWhole m.slots (calls_made es) m.journal
 whole_late es c m at le = record { left = calls_left es c; follows = at.follows; at_end = inl (left-none es c le) }

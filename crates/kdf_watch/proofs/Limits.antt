@@ -12,7 +12,7 @@ use Rattle.kdf_schedule.proofs.Schedules.{calls_made-append, calls_made-one}
 use Rattle.kdf_course.specs.Follows.{answered}
 use Rattle.kdf_theory.specs.Follows.{IsRising, IsWhole}
 use Rattle.kdf_theory.specs.Legal.{IsLegal}
-use Rattle.kdf_theory.specs.Shown.{Shown}
+use Rattle.kdf_theory.specs.MachineView.{MachineView}
 use Rattle.kdf_theory.proofs.Course.CountsBounded.{few-calls, rising-on}
 use Rattle.kdf_theory.proofs.Course.EventsInTurn.{order_count-append}
 use Rattle.kdf_watch.specs.declared.cursor.Cursor.{Cursor}
@@ -56,7 +56,7 @@ first_each zero es each = λ k d lt. absurd (omega (arith, lt))
 first_each (suc i) [] each = λ k d lt. absurd (omega (arith, lt))
 first_each (suc i) (e ∷ es) each = one_each e es (take i es) each (first_each i es (λ j x less. each (suc j) x (omega arith)))
 
-module _ (es : List Event) (c : Cursor) (m : Shown) (keeps : KeepsLimits es) (legal : IsLegal m.slots m.journal) (up : IsUpTo es c m) where
+module _ (es : List Event) (c : Cursor) (m : MachineView) (keeps : KeepsLimits es) (legal : IsLegal m.slots m.journal) (up : IsUpTo es c m) where
   abbrev front : List Event
   front = take c.event es ++ Orders c.calls ∷ []
 
@@ -115,5 +115,5 @@ module _ (es : List Event) (c : Cursor) (m : Shown) (keeps : KeepsLimits es) (le
         (subst (IsRising 0) (sym (append_assoc (take c.event es) (Orders c.calls ∷ []) (Clock 140737488355327 ∷ []))) rises_front)).0;
   }
 
-pub up_of : (es : List Event) (c : Cursor) (m : Shown) → IsAt es c m → IsUpTo es c m
+pub up_of : (es : List Event) (c : Cursor) (m : MachineView) → IsAt es c m → IsUpTo es c m
 up_of es c m at = record { place = at.place; within = at.within; follows = at.follows; room = at.room }

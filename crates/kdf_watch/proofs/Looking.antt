@@ -6,7 +6,7 @@ use Rattle.std.proofs.Common.{◌∙◌, ap, subst, ⊎_elim, arith}
 use Rattle.std.proofs.lemmas.Bool.{cases_eq, eq-eqb, ne_eqb}
 use Rattle.kdf_journal.specs.declared.entry.Entry.{Entry}
 use Rattle.kdf_journal.specs.Counts.{answers, calls, clock, ran}
-use Rattle.kdf_journal.specs.Steps.{Note, Step, Holds, Obeys, Waits}
+use Rattle.kdf_journal.specs.Steps.{Note, JournalStep, Holds, Obeys, Waits}
 use Rattle.kdf_journal.proofs.Bounds.{ran-le-calls}
 use Rattle.kdf_course.specs.World as course
 use Rattle.kdf_transfer.specs.Slots.{Slot}
@@ -20,7 +20,7 @@ use Rattle.kdf_director.specs.Advance.{Advance, AdvanceWith, HeldUp, Obeyed, Wai
 use Rattle.kdf_theory.specs.Legal.{IsLegal, note_of}
 use Rattle.kdf_theory.specs.Next.{lives}
 use Rattle.kdf_director.specs.Orders.{HasMade}
-use Rattle.kdf_theory.specs.Shown.{Shown, ShowsSeen, state_at, state_in, state_of, world_of}
+use Rattle.kdf_theory.specs.MachineView.{MachineView, ShowsSeen, state_at, state_in, state_of, world_of}
 use Rattle.kdf_theory.specs.Slots.{slot_of, start, start_of}
 use Rattle.kdf_theory.specs.ByJournal.{own, seen_of}
 use Rattle.kdf_theory.specs.True.{truth}
@@ -66,7 +66,7 @@ own_registers : (slots : List Slot) (J : List Entry) (p : ℕ) (o : Option Slot)
 own_registers slots J p None = refl
 own_registers slots J p (Some x) = refl
 
-pub registers_are : (m : Shown) (p : ℕ) → ShowsSeen m → option_map (λ (s : State). s.registers) (state_of m p) ≡ option_map
+pub registers_are : (m : MachineView) (p : ℕ) → ShowsSeen m → option_map (λ (s : State). s.registers) (state_of m p) ≡ option_map
     (λ (x : Slot). (own m.slots m.journal p).registers) (slot_of m.slots p)
 registers_are m p seen =
     ap (λ (xs : List State). option_map (λ (s : State). s.registers) (state_in m.slots xs p)) seen
@@ -77,7 +77,7 @@ there_by : (o : Option Slot) (r : Registers) (found : Option Registers) → is_s
 there_by None r found is same = cc
 there_by (Some x) r found is same = same
 
-pub registers_there : (m : Shown) (p : ℕ) → ShowsSeen m → is_some (slot_of m.slots p) ≡ true → option_map (λ (s : State). s.registers) (state_of m p)
+pub registers_there : (m : MachineView) (p : ℕ) → ShowsSeen m → is_some (slot_of m.slots p) ≡ true → option_map (λ (s : State). s.registers) (state_of m p)
     ≡ Some (own m.slots m.journal p).registers
 registers_there m p seen is = there_by (slot_of m.slots p) (own m.slots m.journal p).registers (option_map (λ (s : State). s.registers) (state_of m p)) is
     (registers_are m p seen)
@@ -92,7 +92,7 @@ on_by : (o : Option Slot) (r : Registers) → is_on (option_map (λ (x : Slot). 
 on_by None r = refl
 on_by (Some x) r = refl
 
-pub lives_is : (m : Shown) (p : ℕ) → ShowsSeen m → IsLegal m.slots m.journal → is_on (option_map (λ (s : State). s.registers) (state_of m p))
+pub lives_is : (m : MachineView) (p : ℕ) → ShowsSeen m → IsLegal m.slots m.journal → is_on (option_map (λ (s : State). s.registers) (state_of m p))
     ≡ lives m.slots m.journal p
 unfolding course.lives
 lives_is m p seen legal =
@@ -110,7 +110,7 @@ none_there : (r : Registers) (found : Option Registers) → found ≡ Some r →
 none_there r None is absent = cc
 none_there r (Some x) is absent = cc
 
-module _ (m : Shown) (p : ℕ) (seen : ShowsSeen m) (is : is_some (slot_of m.slots p) ≡ true) where
+module _ (m : MachineView) (p : ℕ) (seen : ShowsSeen m) (is : is_some (slot_of m.slots p) ≡ true) where
   pub absent : None ≡ option_map (λ (s : State). s.registers) (state_of m p) → ⊥
   absent e = none_there (own m.slots m.journal p).registers (option_map (λ (s : State). s.registers) (state_of m p)) (registers_there m p seen is) e
 
@@ -122,19 +122,19 @@ module _ (m : Shown) (p : ℕ) (seen : ShowsSeen m) (is : is_some (slot_of m.slo
 -- ---- a call
 
 -- a program obeyed, and this is the look at it
-abbrev pub Sighted : Shown → Shown → Look → Type 0
+abbrev pub Sighted : MachineView → MachineView → Look → Type 0
 Sighted m w look = (note : Note) × Tells m w (Obeys look.p note) × (look ≡ look_at m.slots w.journal look.p) × IsLook look
 
 -- or none did
-abbrev pub Unsighted : Shown → Shown → Type 0
-Unsighted m w = (s : Step) × Tells m w s × IsBlind s
+abbrev pub Unsighted : MachineView → MachineView → Type 0
+Unsighted m w = (s : JournalStep) × Tells m w s × IsBlind s
 
 -- no call is none
-pub at_once : (answers : ℕ → ℕ → Type 0) (k : ℕ) → k ≡ 0 → (old between : Shown) → HasMade answers k old between → between ≡ old
+pub at_once : (answers : ℕ → ℕ → Type 0) (k : ℕ) → k ≡ 0 → (old between : MachineView) → HasMade answers k old between → between ≡ old
 at_once answers zero none old between made = made
 at_once answers (suc k) none old between made = absurd cc
 
-module _ (answers : ℕ → ℕ → Type 0) (m w : Shown) (r : Progress) (took : AdvanceWith answers m w r) where
+module _ (answers : ℕ → ℕ → Type 0) (m w : MachineView) (r : Progress) (took : AdvanceWith answers m w r) where
   obeyed : (p : ℕ) → r ≡ progress.Ran p → Obeyed took.heard m w p
   obeyed p is = subst (Advance took.heard m w) is took.advance
 

@@ -12,7 +12,7 @@ use Rattle.kdf_director.specs.Halts.{halts, stops, ArePassed, HasPassed, IsPasse
 use Rattle.kdf_director.specs.Progressed.{found_live}
 use Rattle.kdf_theory.specs.ByJournal.{own}
 use Rattle.kdf_theory.specs.Legal.{IsLegal}
-use Rattle.kdf_theory.specs.Shown.{Shown, ShowsSeen}
+use Rattle.kdf_theory.specs.MachineView.{MachineView, ShowsSeen}
 use Rattle.kdf_theory.specs.Slots.{slot_of}
 use Rattle.kdf_watch.specs.declared.look.Look.{Look}
 use Rattle.kdf_watch.specs.Looks.{look_at}
@@ -27,7 +27,7 @@ halt_is Never p n t r = refl
 halt_is Each p n t r = refl
 halt_is (At k at) p n t r = refl
 
-no_halt : (halt : Halt) (w : Shown) (p : ℕ) (look : Look) → ShowsSeen w → is_some (slot_of w.slots p) ≡ true → look ≡ look_at w.slots w.journal p
+no_halt : (halt : Halt) (w : MachineView) (p : ℕ) (look : Look) → ShowsSeen w → is_some (slot_of w.slots p) ≡ true → look ≡ look_at w.slots w.journal p
     → stops halt w (progress.Ran p) ≡ false → is_halt halt look ≡ false
 no_halt halt w p look seen there is goes_on =
     ap (is_halt halt) is
@@ -35,14 +35,14 @@ no_halt halt w p look seen there is goes_on =
     ∙ sym (ap (halts halt p) (registers_there w p seen there))
     ∙ goes_on
 
-pub passed_of : (answers : ℕ → ℕ → Type 0) (halt : Halt) (n : ℕ) (m w : Shown) → (halt ≡ Never → ⊥) → ArePassed answers halt n m w
+pub passed_of : (answers : ℕ → ℕ → Type 0) (halt : Halt) (n : ℕ) (m w : MachineView) → (halt ≡ Never → ⊥) → ArePassed answers halt n m w
     → HasPassed answers halt n m w
 passed_of answers Never n m w may p = absurd (may refl)
 passed_of answers Each n m w may p = p
 passed_of answers (At k at) n m w may p = p
 
 -- so many calls were passed by
-pub record Passed (sees : Look → Bool → Type 0) (m w : Shown) (n : ℕ) : Type 0 where
+pub record Passed (sees : Look → Bool → Type 0) (m w : MachineView) (n : ℕ) : Type 0 where
   pub gone : HasGone sees m w
   pub slots : w.slots ≡ m.slots
   pub legal : IsLegal w.slots w.journal
@@ -50,7 +50,7 @@ pub record Passed (sees : Look → Bool → Type 0) (m w : Shown) (n : ℕ) : Ty
   pub time : clock w.journal ≡ clock m.journal
 
 module _ (answers : ℕ → ℕ → Type 0) (sees : Look → Bool → Type 0) (halt : Halt) (stop : IsStopFor sees halt) where
-  module _ (m b w : Shown) (n : ℕ) (g : Passed sees m b n) (few : calls m.journal + n < 20000000) (time : clock m.journal ≤ 140737488355327)
+  module _ (m b w : MachineView) (n : ℕ) (g : Passed sees m b n) (few : calls m.journal + n < 20000000) (time : clock m.journal ≤ 140737488355327)
       (same : w.slots ≡ b.slots) (seen : ShowsSeen w) where
     by_call : (r : Progress) → AdvanceWith answers b w r → found_live r ≡ true → stops halt w r ≡ false → HasGone sees m w
     by_call (progress.Ran p) took live goes_on =
@@ -67,7 +67,7 @@ module _ (answers : ℕ → ℕ → Type 0) (sees : Look → Bool → Type 0) (h
         gone_blind sees m b w g.gone u.0 u.1 u.2
     by_call progress.AllEnded took live goes_on = absurd cc
 
-  pass_one : (m b w : Shown) (n : ℕ) → Passed sees m b n → IsPassed answers halt b w → calls m.journal + n < 20000000 → clock m.journal ≤ 140737488355327
+  pass_one : (m b w : MachineView) (n : ℕ) → Passed sees m b n → IsPassed answers halt b w → calls m.journal + n < 20000000 → clock m.journal ≤ 140737488355327
       → Passed sees m w (suc n)
   pass_one m b w n g p few time =
       let x = p.made in
@@ -75,16 +75,18 @@ module _ (answers : ℕ → ℕ → Type 0) (sees : Look → Bool → Type 0) (h
       let none : x.before ≡ 0 = omega (arith, x.count) in
       record {
         gone = by_call m b w n g few time h.slots p.seen p.progress
-            (subst (λ (z : Shown). AdvanceWith answers z w p.progress) (at_once answers x.before none b x.between x.earlier.made) x.last) p.live p.goes_on;
+            (subst (λ (z : MachineView). AdvanceWith answers z w p.progress) (at_once answers x.before none b x.between x.earlier.made) x.last) p.live
+            p.goes_on;
         slots = h.slots ∙ g.slots;
         legal = h.legal;
         few = omega (arith, h.few, g.few);
         time = h.time ∙ g.time;
       }
 
-  pub pass_all : (n : ℕ) (m w : Shown) → HasPassed answers halt n m w → IsLegal m.slots m.journal → calls m.journal + n ≤ 20000000
+  pub pass_all : (n : ℕ) (m w : MachineView) → HasPassed answers halt n m w → IsLegal m.slots m.journal → calls m.journal + n ≤ 20000000
       → clock m.journal ≤ 140737488355327 → Passed sees m w n
   pass_all zero m w same legal few time =
-      subst (λ (z : Shown). Passed sees m z 0) (sym same) (record { gone = gone_none sees m; slots = refl; legal = legal; few = omega arith; time = refl })
+      subst (λ (z : MachineView). Passed sees m z 0) (sym same)
+      (record { gone = gone_none sees m; slots = refl; legal = legal; few = omega arith; time = refl })
   pass_all (suc n) m w h legal few time =
       pass_one m h.0 w n (pass_all n m h.0 h.1 legal (omega (arith, few)) time) h.2 (omega (arith, few)) time

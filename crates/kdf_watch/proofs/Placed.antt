@@ -10,7 +10,7 @@ use Rattle.kdf_qstore.specs.declared.triple.Triple.{Triple}
 use Rattle.kdf_qstore.specs.Triples.{triple_at, triple_of}
 use Rattle.kdf_syllable.specs.declared.amount.Amount.TheVariants.{Fixed, Count}
 use Rattle.kdf_decode.specs.Decoding.{decoded, decoded_two, decoded_jump, decoded_store, decoded_shift, direct, signed_7}
-use Rattle.kdf_arith.specs.Arith.{Arith, arith as arith_row}
+use Rattle.kdf_arith.specs.Arith.{Arith, arith_result}
 use Rattle.kdf_arith.specs.declared.order.ArithOrder.TheVariants as arithmetic
 use Rattle.kdf_journal.specs.declared.kind.Kind.{Kind}
 use Rattle.kdf_journal.specs.declared.kind.Kind.TheVariants.{Mt}
@@ -26,7 +26,8 @@ use Rattle.kdf_processor.specs.Effect.{Ending, Changing, Fetching, Keeping, Test
 use Rattle.kdf_processor.specs.Lone.{lone}
 use Rattle.kdf_processor.specs.Needs.{count_at, decoded_or_none, effect_or_liv, next_effect, order_at, syllables}
 use Rattle.kdf_processor.specs.Row.{perform, row}
-use Rattle.kdf_processor.specs.Table.{on, on_top, arith_changes, link_row, keep_link_row, plain_row, claims_found, claims_or_takes, claims_kind, out_effect}
+use Rattle.kdf_processor.specs.Table.{syllable_after, on_top, arith_changes, link_row, keep_link_row, plain_row, claims_found, claims_or_takes, claims_kind}
+use Rattle.kdf_processor.specs.Table.{out_effect}
 use Rattle.kdf_processor.specs.Table.{pushes, sets_q, changes_q, short_loop, brought, from_top, changed, single_row, copied, places_of, moves, has_bit}
 use Rattle.kdf_processor.specs.Table.{indirect_effect, indirect_address, indirect_half, direct_effect, jumps_so, decision, is_area, exit_row, starts}
 use Rattle.kdf_processor.specs.Table.{transfer_of, query_effect, guarded, effect}
@@ -78,7 +79,7 @@ top_small : (nest : List ℕ) (x : Change) (f : ℕ → List ℕ → Change) →
 top_small [] x f p q = p
 top_small (n ∷ below) x f p q = q n below
 
-on_small : (at n : ℕ) → on at n < 49152
+on_small : (at n : ℕ) → syllable_after at n < 49152
 on_small at n = omega arith
 
 fails : {kind : _} → IsPlaced (Failing kind)
@@ -110,7 +111,7 @@ plain_small r code =
     if_small (eqb code 0x01) (record { there = on_small r.at 1 })
     (if_small (eqb code 0x1D) (link_small r r.links)
     (if_small (eqb code 0x1E) (keep_link_small r)
-    (if_small (leb code 0x20) (arith_small 1 r (arith_row (arithmetic.Plain code) r.nest r.flags)) refused)))
+    (if_small (leb code 0x20) (arith_small 1 r (arith_result (arithmetic.Plain code) r.nest r.flags)) refused)))
 
 pushes_small : (r : Registers) (n w : ℕ) → IsSmall (pushes r n w)
 pushes_small r n w = if_small (ltb (length r.nest) 16) (record { there = on_small r.at n }) refused
@@ -132,7 +133,7 @@ single_small r code q t =
     (if_small (ltb code 0x63) (changes_small r q (changed code t))
     (if_small (eqb code 0x6F) (loop_small r t.c) refused)))
 
-goes_small : (r : Registers) (target : ℕ) (b : Bool) → target / 8192 < 6 → cond b (6 * (target % 8192) + target / 8192) (on r.at 3) < 49152
+goes_small : (r : Registers) (target : ℕ) (b : Bool) → target / 8192 < 6 → cond b (6 * (target % 8192) + target / 8192) (syllable_after r.at 3) < 49152
 goes_small r target true lt = omega (arith, lt)
 goes_small r target false lt = on_small r.at 3
 
@@ -234,7 +235,7 @@ effect_placed c r (Plain code) lt =
 effect_placed c r (Indirect code k q) lt = guarded_placed c _ (indirect_placed r code k q)
 effect_placed c r (Single code q) lt = of_change_placed _ (single_small r code q (triple_at r.q q))
 effect_placed c r (Copies code q k) lt = of_change_placed _ (changes_small r k (copied code (triple_at r.q q) (triple_at r.q k)))
-effect_placed c r (Shift code by) lt = of_change_placed _ (arith_small 2 r (arith_row (arithmetic.Shift code (places_of r by)) r.nest r.flags))
+effect_placed c r (Shift code by) lt = of_change_placed _ (arith_small 2 r (arith_result (arithmetic.Shift code (places_of r by)) r.nest r.flags))
 effect_placed c r (Device code q) lt = guarded_placed c _ (starts_placed r (triple_at r.q q) (transfer_of code (triple_at r.q q).m))
 effect_placed c r (Query b q) lt = guarded_placed c _ (query_placed r b (triple_at r.q q))
 effect_placed c r (Jump x target) lt = of_change_placed _ (jump_small target lt (decision r x))

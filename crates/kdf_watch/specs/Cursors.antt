@@ -6,7 +6,7 @@ use Rattle.kdf_schedule.specs.declared.event.Event.TheVariants.{Orders}
 use Rattle.kdf_schedule.specs.Events.{IsInRange}
 use Rattle.kdf_schedule.specs.Calls.{Call, calls_made, orders_in, order_count}
 use Rattle.kdf_theory.specs.Follows.{Follows, IsRising, entries_in}
-use Rattle.kdf_theory.specs.Shown.{Shown}
+use Rattle.kdf_theory.specs.MachineView.{MachineView}
 use Rattle.kdf_watch.specs.declared.cursor.Cursor.{Cursor}
 
 -- the event of this number; after the last one, one of no orders
@@ -25,7 +25,7 @@ pub record KeepsLimits (events : List Event) : Type 0 where
   pub in_range : All IsInRange events
 
 -- the machine's journal follows the events just up to the cursor, and it has room for those that are left
-pub record IsUpTo (events : List Event) (c : Cursor) (m : Shown) : Type 0 where
+pub record IsUpTo (events : List Event) (c : Cursor) (m : MachineView) : Type 0 where
   pub place : c.event ≤ length events
   pub within : c.calls ≤ orders_in (event_at events c.event)
   pub follows : Follows m.slots (calls_made events) (calls_left events c) m.journal

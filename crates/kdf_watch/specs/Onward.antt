@@ -4,12 +4,12 @@ use Rattle.kdf_journal.specs.Counts.{calls, clock}
 use Rattle.kdf_schedule.specs.declared.event.Event.{Event}
 use Rattle.kdf_schedule.specs.Calls.{calls_made, orders_in, order_count}
 use Rattle.kdf_theory.specs.Follows.{Follows, IsRising, entries_in}
-use Rattle.kdf_theory.specs.Shown.{Shown}
+use Rattle.kdf_theory.specs.MachineView.{MachineView}
 use Rattle.kdf_watch.specs.declared.cursor.Cursor.{Cursor}
 use Rattle.kdf_watch.specs.Cursors.{calls_left, event_at}
 
 -- the machine's journal follows the events just up to the cursor, and those that are left keep what the machine asks
-pub record IsAt (events : List Event) (c : Cursor) (m : Shown) : Type 0 where
+pub record IsAt (events : List Event) (c : Cursor) (m : MachineView) : Type 0 where
   pub place : c.event ≤ length events
   pub within : c.calls ≤ orders_in (event_at events c.event)
   pub follows : Follows m.slots (calls_made events) (calls_left events c) m.journal

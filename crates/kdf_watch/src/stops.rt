@@ -6,7 +6,7 @@ ghost use Rattle.kdf_schedule.specs.Events.{IsInRange};
 ghost use Rattle.kdf_service.specs.Rules.{IsService};
 ghost use Rattle.kdf_theory.specs.Follows.{IsRising, entries_in};
 ghost use Rattle.kdf_theory.specs.Served.{IsJournalFor};
-ghost use Rattle.kdf_theory.specs.Shown.{ShowsSeen};
+ghost use Rattle.kdf_theory.specs.MachineView.{ShowsSeen};
 ghost use Rattle.kdf_watch.specs.Hits.{is_at};
 ghost use Rattle.kdf_watch.specs.Stops.{stops_of};
 

@@ -5,7 +5,7 @@ pub mod CanTurn
 pub mod Filled
 pub mod Going
 pub mod Keeping
-pub mod Notes
+pub mod Remarks
 pub mod Owners
 pub mod Parts
 pub mod Running
@@ -14,6 +14,6 @@ pub mod Shared
 pub mod Sound
 pub mod Standing
 pub mod Stints
-pub mod Turn
+pub mod MachinePort
 pub mod Turned
 pub mod Yards

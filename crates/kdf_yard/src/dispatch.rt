@@ -2,7 +2,7 @@
 ghost use Rattle.std.specs.Prelude.{◌≡◌, ◌+◌, ◌<◌, ◌≤◌, length, IfNone, IfOk, IfSome, None, OnErr, false};
 ghost use Rattle.kdf_lockout.specs.Groups.{Cells};
 ghost use Rattle.kdf_processor.specs.Buffered.{Agrees};
-ghost use Rattle.kdf_yard.specs.declared.note.Note.TheVariants.{Quiet};
+ghost use Rattle.kdf_yard.specs.declared.remark.Remark.TheVariants.{Quiet};
 ghost use Rattle.kdf_yard.specs.Fields.Batches.{of_seat, AreQuiet, HasBatch, Passes};
 ghost use Rattle.kdf_yard.specs.Fields.CanTurn.{CanTurn};
 ghost use Rattle.kdf_yard.specs.Fields.Parts.{reach_of, seat_of, window_at};
@@ -11,15 +11,15 @@ ghost use Rattle.kdf_yard.specs.Fields.Settled.{both_of, retired, settled};
 ghost use Rattle.kdf_yard.specs.Fields.Shared.{moment};
 ghost use Rattle.kdf_yard.specs.Fields.Standing.{IsSameYard};
 ghost use Rattle.kdf_places.specs.Spots.{AreDry};
-ghost use Rattle.kdf_yard.specs.Fields.Turn.{held_in, reach_in, seat_in, shared, shown, SameProgram};
+ghost use Rattle.kdf_yard.specs.Fields.MachinePort.{held_in, reach_in, seat_in, shared, shown, SameProgram};
 ghost use Rattle.kdf_theory.specs.Holders.{held_by};
 ghost use Rattle.kdf_yard.specs.Fields.Turned.{HasRun, HasTried};
 ghost use Rattle.kdf_yard.specs.Fields.Yards.{registers_in, AreLentIn, HasTurnedIn, HasTurnedQuietly};
 
+use crate::machine_port::MachinePort;
 use crate::seek::{Seek, is_at};
 use crate::stint::retire;
-use crate::turn::Turn;
-use crate::{Moment, Note, Place, Program, Stand, Yard};
+use crate::{Moment, Place, Program, Remark, Stand, Yard};
 use kdf_journal::Journal;
 use kdf_lockout::Store;
 use kdf_processor::{Buffer, Life, Registers, Step, obey_at_once, obey_in_general};
@@ -31,7 +31,7 @@ use std::alloc::{AllocError, Global};
 #[inline(always)]
 fn obey_at_hand(
     registers: &mut Registers,
-    turn: &mut Turn<'_>,
+    turn: &mut MachinePort<'_>,
     held: &mut Option<Buffer>,
 ) -> Option<()>
     requires ran { registers.old.ran < u32.MAX }
@@ -51,7 +51,7 @@ fn obey_at_hand(
 #[inline(always)]
 fn obey_next(
     registers: &mut Registers,
-    turn: &mut Turn<'_>,
+    turn: &mut MachinePort<'_>,
     held: &mut Option<Buffer>,
 ) -> Result<Step, AllocError>
     requires live { registers.old.state ≡ Life.Live }
@@ -76,10 +76,10 @@ fn obey_next(
 #[inline(always)]
 fn obey_quiet<S: Seek>(
     registers: &mut Registers,
-    turn: &mut Turn<'_>,
+    turn: &mut MachinePort<'_>,
     most: u32,
     place: Option<u16>,
-) -> (u32, Result<(Step, Note), AllocError>)
+) -> (u32, Result<(Step, Remark), AllocError>)
     requires live { registers.old.state ≡ Life.Live }
     requires some { 0 < most }
     requires ran { registers.old.ran + most ≤ u32.MAX }
@@ -128,7 +128,7 @@ fn try_next<S: Seek>(
     places: &mut Vec<Place>,
     most: u32,
     place: Option<u16>,
-) -> (u32, Result<(Step, Note), AllocError>)
+) -> (u32, Result<(Step, Remark), AllocError>)
     requires live { program.old.registers.state ≡ Life.Live }
     requires some { 0 < most }
     requires ran { program.old.registers.ran + most ≤ u32.MAX }
@@ -147,7 +147,7 @@ fn try_next<S: Seek>(
     ensures dry { AreDry places.new.items }
 {
     let mut block = Vec::new(stand.alloc);
-    let mut turn = Turn {
+    let mut turn = MachinePort {
         alloc: stand.alloc,
         p: program.p,
         window: window_of(stand.windows, stand.slot.p),
@@ -160,7 +160,7 @@ fn try_next<S: Seek>(
         store,
         places,
         block: &mut block,
-        note: Note::Quiet,
+        note: Remark::Quiet,
     };
     obey_quiet::<S>(&mut program.registers, &mut turn, most, place)
 }
@@ -204,7 +204,7 @@ pub(crate) fn run<S: Seek>(
     places: &mut Vec<Place>,
     most: u32,
     place: Option<u16>,
-) -> (u32, Result<(Step, Note), AllocError>)
+) -> (u32, Result<(Step, Remark), AllocError>)
     requires live { program.old.registers.state ≡ Life.Live }
     requires some { 0 < most }
     requires ran { program.old.registers.ran + most ≤ u32.MAX }
@@ -254,7 +254,7 @@ impl Yard {
         &mut self,
         batch: Batch<'_>,
         heard: Word,
-    ) -> (u32, Result<(Step, Note), AllocError>)
+    ) -> (u32, Result<(Step, Remark), AllocError>)
         requires there { batch.i < length self.old.seats }
         requires live { (registers_in self.old batch.i).state ≡ Life.Live }
         requires some { 0 < batch.most }

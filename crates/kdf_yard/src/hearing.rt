@@ -9,8 +9,8 @@ ghost use Rattle.kdf_yard.specs.Fields.Turned.{word_over};
 ghost use Rattle.kdf_yard.specs.Fields.Yards.{registers_in, word_in};
 
 use crate::dispatch::window_of;
-use crate::turn::Turn;
-use crate::{Moment, Note, Place, Program, Stand, Yard};
+use crate::machine_port::MachinePort;
+use crate::{Moment, Place, Program, Remark, Stand, Yard};
 use kdf_journal::Journal;
 use kdf_lockout::Store;
 use kdf_processor::{Life, asks_ahead, word_ahead};
@@ -35,7 +35,7 @@ fn word_asked(
     ensures places { places.new ≡ places.old }
 {
     let mut block = Vec::new(stand.alloc);
-    let turn = Turn {
+    let turn = MachinePort {
         alloc: stand.alloc,
         p: program.p,
         window: window_of(stand.windows, stand.slot.p),
@@ -51,7 +51,7 @@ fn word_asked(
         store,
         places,
         block: &mut block,
-        note: Note::Quiet,
+        note: Remark::Quiet,
     };
     asks_ahead(&program.registers, &turn)
 }
@@ -59,7 +59,7 @@ fn word_asked(
 /// What the service answers to the word of which the next order of a program asks it; None where that asks nothing.
 /// Most programs aren't served: this stays out of the way of their orders.
 #[inline(never)]
-fn hear<F: Fn(u64) -> u64>(
+fn answer_if_asked<F: Fn(u64) -> u64>(
     stand: &Stand<'_>,
     journal: &Journal,
     program: &mut Program,
@@ -107,7 +107,7 @@ impl Yard {
                 windows: &self.windows,
                 slot,
             };
-            hear(
+            answer_if_asked(
                 &stand,
                 journal,
                 &mut self.programs[i],

@@ -7,18 +7,18 @@ mod dispatch;
 mod fill;
 mod hearing;
 mod load;
+mod machine_port;
 mod moment;
 mod moves;
 mod next;
-mod note;
 mod program;
+mod remark;
 mod seek;
 mod shown;
 mod site;
 mod slot;
 mod stint;
 mod tries;
-mod turn;
 mod yard;
 
 pub use dispatch::{Batch, window_of};
@@ -27,8 +27,8 @@ pub use load::load_yard;
 use moment::Moment;
 pub use moves::word_of;
 pub use next::is_any_on;
-pub use note::Note;
 pub use program::Program;
+pub use remark::Remark;
 pub use seek::{Seek, SeeksNone, SeeksPlace, is_at};
 pub use shown::{
     device_in, is_claimed_in, registers_of, stint_in, stints_of, texts_of, window_given,

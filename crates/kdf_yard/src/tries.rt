@@ -8,7 +8,7 @@ ghost use Rattle.kdf_yard.specs.Fields.Batches.{is_at};
 
 use crate::dispatch::Batch;
 use crate::seek::{Seek, is_at};
-use crate::{Loaded, Note, Yard};
+use crate::{Loaded, Remark, Yard};
 use kdf_processor::{Life, Step};
 use kdf_service::Service;
 use kdf_word::Word;
@@ -47,7 +47,7 @@ impl Yard {
         &mut self,
         batch: Batch<'_>,
         service: &Service<F>,
-    ) -> (u32, Result<(Step, Note), AllocError>)
+    ) -> (u32, Result<(Step, Remark), AllocError>)
         requires service { IsService (F.pre service.now) (F.post service.now) }
         requires there { batch.i < length self.old.seats }
         requires live { (registers_in self.old batch.i).state ≡ Life.Live }

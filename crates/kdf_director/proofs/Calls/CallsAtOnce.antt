@@ -19,8 +19,8 @@ use Rattle.kdf_processor.specs.declared.step.Step.TheVariants as step
 use Rattle.kdf_processor.specs.Lone.{is_live}
 use Rattle.kdf_director.specs.declared.machine.Progress.{Progress}
 use Rattle.kdf_director.specs.declared.machine.Progress.TheVariants as progress
-use Rattle.kdf_yard.specs.declared.note.Note.{Note}
-use Rattle.kdf_yard.specs.declared.note.Note.TheVariants as note
+use Rattle.kdf_yard.specs.declared.remark.Remark.{Remark}
+use Rattle.kdf_yard.specs.declared.remark.Remark.TheVariants as note
 use Rattle.kdf_director.specs.Fields.Agrees.{Agrees, IsReady}
 use Rattle.kdf_yard.specs.Fields.Running.{AreLent}
 use Rattle.kdf_director.specs.declared.halt.Halt.{Halt}
@@ -36,7 +36,7 @@ use Rattle.kdf_yard.specs.Fields.Yards.{any_in, first_in, hold_in, number_in, re
 use Rattle.kdf_theory.specs.Next.{any_live}
 use Rattle.kdf_director.specs.Runs.{HasEntered, HasMadeOn, IsEntered, held_after}
 use Rattle.kdf_theory.specs.InARow.{ran_on, waited_on}
-use Rattle.kdf_theory.specs.Shown.{Shown, state_at}
+use Rattle.kdf_theory.specs.MachineView.{MachineView, state_at}
 use Rattle.kdf_places.specs.Shared.{Shared}
 use Rattle.kdf_director.proofs.Calls.CallsAfterCalls.{made_none}
 use Rattle.kdf_director.proofs.Calls.GoingFurther.{going_further}
@@ -67,7 +67,7 @@ at_four P {a} {k} {b} {l} {c} {m} {d} {n} one two three four p =
     subst (λ w. P w l m n) one (subst (λ x. P a x m n) two (subst (λ y. P a b y n) three (subst (λ z. P a b c z) four p)))
 
 -- no more calls are answered than are left: those that were entered, and those that wait
-pub entered_within : {E F : Type 0} (J K : List Entry) (p quiet ran most : ℕ) (hold held : Option Need) (tried : Result (Step × Note) E)
+pub entered_within : {E F : Type 0} (J K : List Entry) (p quiet ran most : ℕ) (hold held : Option Need) (tried : Result (Step × Remark) E)
     (answer : Result (ℕ × Progress) F) → HasEntered J p quiet ran hold tried K held answer → quiet < most → IfOk answer (λ x. x.0 ≤ most)
 entered_within J K p quiet ran most hold held (Ok t) (Ok x) has left = let count = has.count in omega (arith, left)
 entered_within J K p quiet ran most hold held (Ok t) (Err e) has left = tt
@@ -86,7 +86,7 @@ pub record IsOn (answers : ℕ → ℕ → Type 0) (halt : Halt) (y : Standing) 
   pub passed : ArePassed answers halt n (shown_of y J room) (shown y.slots y.reaches z.seats z.shared (ran_on J.entries (number_in y i) n) room)
 
 module _ (answers : ℕ → ℕ → Type 0) (y : Standing) (J : Recorded) (room : ℕ) (ready : IsReady y J room) where
-  abbrev old : Shown
+  abbrev old : MachineView
   old = shown_of y J room
 
   pub near : AreNear y
@@ -211,10 +211,10 @@ module _ (answers : ℕ → ℕ → Type 0) (y : Standing) (J : Recorded) (room 
     abbrev Going : ℕ → List Seat → Shared → Type 0
     Going = IsGoingOn answers y J.entries room i
 
-    abbrev Tries : List Seat → Shared → List Seat → Shared → Step → Note → Type 0
+    abbrev Tries : List Seat → Shared → List Seat → Shared → Step → Remark → Type 0
     Tries = HasTriedOn answers y.reaches (clock J.entries) i
 
-    abbrev Past : List Seat → Shared → List Seat → Shared → Step → Note → Type 0
+    abbrev Past : List Seat → Shared → List Seat → Shared → Step → Remark → Type 0
     Past = Passes (of_seats i) place Tries
 
     further : (n : ℕ) (mid : List Seat) (between : Shared) → Going n mid between → (k : ℕ) (after : List Seat) (left : Shared)
@@ -223,7 +223,7 @@ module _ (answers : ℕ → ℕ → Type 0) (y : Standing) (J : Recorded) (room 
         going_further answers y J.entries room i n k mid between after left g few (quiet_map Past Tries (λ b x a l h. h.0) k mid between after left quiet)
 
     -- and so it is seen after n orders, all of which were passed
-    abbrev after_all : ℕ → List Seat → Shared → Shown
+    abbrev after_all : ℕ → List Seat → Shared → MachineView
     after_all n seats s = shown y.slots y.reaches seats s (ran_on J.entries p n) room
 
     abbrev Passed : ℕ → List Seat → Shared → Type 0
@@ -243,7 +243,7 @@ module _ (answers : ℕ → ℕ → Type 0) (y : Standing) (J : Recorded) (room 
       pub ran : (registers_in z i).ran ≤ CALL_LIMIT
       ran = few_on answers y J.entries room i n z.seats z.shared on.course
 
-      module _ {E : Type 0} (k : ℕ) (few : calls J.entries + (n + k) < CALL_LIMIT) (w : Standing) (same : IsSameYard z w) (tried : Result (Step × Note) E)
+      module _ {E : Type 0} (k : ℕ) (few : calls J.entries + (n + k) < CALL_LIMIT) (w : Standing) (same : IsSameYard z w) (tried : Result (Step × Remark) E)
           (time : ℕ) (now : time ≡ clock J.entries) (inside : halt ≡ Each → ⊥) (did : IfOk tried (λ x. HasTriedIn answers time i k place z w x.0 x.1)) where
         same_yard : IsSameYard y w
         same_yard =
@@ -263,7 +263,7 @@ module _ (answers : ℕ → ℕ → Type 0) (y : Standing) (J : Recorded) (room 
         -- nothing is noted of that either
         pub going_more : tried ≡ Ok (step.Done, note.Quiet) → is_at place (registers_in w i) ≡ false → IsOn answers halt y J room i (n + k + 1) w
         going_more is past =
-            let batch = subst (λ (t : Result (Step × Note) E). IfOk t (λ x. HasBatch (of_seats i) place Tries k z.seats z.shared w.seats w.shared x.0 x.1)) is
+            let batch = subst (λ (t : Result (Step × Remark) E). IfOk t (λ x. HasBatch (of_seats i) place Tries k z.seats z.shared w.seats w.shared x.0 x.1)) is
             did_then in
             let one : suc (n + k) ≡ n + k + 1 = omega arith in
             let until = further n z.seats z.shared on.course k batch.mid batch.between (omega (arith, few)) batch.earlier in
@@ -297,7 +297,7 @@ module _ (answers : ℕ → ℕ → Type 0) (y : Standing) (J : Recorded) (room 
               ∙ ap (λ hs. record { slots = y.slots; reaches = y.reaches; seats = w.seats; holds = set hs i h; shared = w.shared }) same_yard.holds
 
           turned : (m : ℕ) (mid : List Seat) (between : Shared) → Going m mid between → Passed m mid between → calls J.entries + m < CALL_LIMIT
-              → (ended : Step) (noted : Note) (made : ℕ) (answer : Progress) → Tries mid between w.seats w.shared ended noted
+              → (ended : Step) (noted : Remark) (made : ℕ) (answer : Progress) → Tries mid between w.seats w.shared ended noted
               → IsEntered J.entries (number_in w i) m (registers_in w i).ran ended noted K.entries h made answer
               → IsReady v K room × HasMadeSomePast answers halt made old (shown_of v K room) answer
           turned m mid between g passed few ended noted made answer tried e =
@@ -356,7 +356,7 @@ module _ (answers : ℕ → ℕ → Type 0) (y : Standing) (J : Recorded) (room 
               (by tried r did_then err_then
               (subst (λ (E : List Entry). HasEntered E (number_in w i) (n + k) (registers_in w i).ran (hold_in w i) tried K.entries h r) still entered))
             where
-              by : (t : Result (Step × Note) E) (r : Result (ℕ × Progress) F)
+              by : (t : Result (Step × Remark) E) (r : Result (ℕ × Progress) F)
                   → IfOk t (λ x. HasBatch (of_seats i) place Tries k z.seats z.shared w.seats w.shared x.0 x.1)
                   → OnErr t (AreQuiet Past k z.seats z.shared w.seats w.shared)
                   → HasEntered J.entries (number_in w i) (n + k) (registers_in w i).ran (hold_in w i) t K.entries h r → Ends r v

@@ -10,15 +10,15 @@ use Rattle.kdf_theory.specs.Next.{lone_dispatched}
 use Rattle.kdf_director.specs.Orders.{HasMadeAll, HasMadeFewer}
 use Rattle.kdf_director.specs.Progressed.{found_live}
 use Rattle.kdf_director.specs.Runs.{HasMadeAtMost, HasMadeButFewer, HasMadeOn, HasMadeSome}
-use Rattle.kdf_theory.specs.Shown.{Shown}
+use Rattle.kdf_theory.specs.MachineView.{MachineView}
 use Rattle.kdf_director.proofs.Calls.FoundLive.{rested_at}
 use Rattle.kdf_director.proofs.Calls.CallsAfterCalls.{made_reaches, made_then}
 
-module _ (answers : ℕ → ℕ → Type 0) (old : Shown) where
+module _ (answers : ℕ → ℕ → Type 0) (old : MachineView) where
   -- after i calls
-  module _ (i : ℕ) (m : Shown) (h : HasMadeOn answers i old m) where
+  module _ (i : ℕ) (m : MachineView) (h : HasMadeOn answers i old m) where
     -- some more were made
-    unfoldable pub some_more : (k : ℕ) (new : Shown) (r : Progress) → HasMadeSome answers k m new r → HasMadeSome answers (k + i) old new r
+    unfoldable pub some_more : (k : ℕ) (new : MachineView) (r : Progress) → HasMadeSome answers k m new r → HasMadeSome answers (k + i) old new r
     some_more k new r x =
         let before = x.before in
         let count = x.count in
@@ -33,14 +33,14 @@ module _ (answers : ℕ → ℕ → Type 0) (old : Shown) where
         }
 
     -- or the next one, or one after it, had no memory
-    pub fewer_more : (n left : ℕ) (new : Shown) → i + left ≡ n → HasMadeButFewer answers left m new → HasMadeButFewer answers n old new
+    pub fewer_more : (n left : ℕ) (new : MachineView) → i + left ≡ n → HasMadeButFewer answers left m new → HasMadeButFewer answers n old new
     fewer_more n left new all x = let lt = x.1 in (x.0 + i, omega (arith, all), made_then answers i x.0 old m new h x.2)
 
-  pub only_made : (n : ℕ) (new : Shown) → HasMadeButFewer answers n old new → HasMadeFewer answers n old new
+  pub only_made : (n : ℕ) (new : MachineView) → HasMadeButFewer answers n old new → HasMadeFewer answers n old new
   only_made n new x = (x.0, x.1, x.2.made)
 
   -- after the last of them
-  module _ (k : ℕ) (new : Shown) where
+  module _ (k : ℕ) (new : MachineView) where
     -- as many found a live program
     pub lived : (r : Progress) → HasMadeSome answers k old new r → (j : ℕ) × (j ≤ k) × HasMadeOn answers j old new
     lived (progress.Ran p) x = (k, omega arith, x.all_on refl)
@@ -75,7 +75,7 @@ module _ (answers : ℕ → ℕ → Type 0) (old : Shown) where
               (made_reaches answers k old new (x.all_on live))
 
   -- the same of those that are one fact
-  module _ (n : ℕ) (new : Shown) (r : Progress) (x : HasMadeAtMost answers n old new r) where
+  module _ (n : ℕ) (new : MachineView) (r : Progress) (x : HasMadeAtMost answers n old new r) where
     pub all_of : HasMadeAll answers n old new r
     all_of = made_all x.made new n r x.some x.within x.whole
 

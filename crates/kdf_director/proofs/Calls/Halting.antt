@@ -8,7 +8,7 @@ use Rattle.kdf_director.specs.Halts.{halt_inside, stops, ArePassed, HasMadeButTo
 use Rattle.kdf_director.specs.Orders.{HasMade}
 use Rattle.kdf_director.specs.Progressed.{found_live}
 use Rattle.kdf_director.specs.Runs.{HasMadeAtMost, HasMadeButFewer, HasMadeOn, HasMadeSome}
-use Rattle.kdf_theory.specs.Shown.{Shown, ShowsSeen}
+use Rattle.kdf_theory.specs.MachineView.{MachineView, ShowsSeen}
 use Rattle.kdf_director.proofs.Calls.CallsAfterCalls.{made_one, made_then}
 use Rattle.kdf_director.proofs.Calls.CallsInTurn.{some_more}
 
@@ -17,20 +17,20 @@ at_may p at same = cc
 
 module _ (answers : ℕ → ℕ → Type 0) where
   -- no call is none
-  at_once : (k : ℕ) → k ≡ 0 → (old new : Shown) → HasMade answers k old new → new ≡ old
+  at_once : (k : ℕ) → k ≡ 0 → (old new : MachineView) → HasMade answers k old new → new ≡ old
   at_once zero none old new made = made
   at_once (suc k) none old new made = absurd cc
 
   behind : (k i : ℕ) → k ≡ 0 → k + i ≡ i
   behind k i none = omega (arith, none)
 
-  pub passed_none : (halt : Halt) (m : Shown) → ArePassed answers halt 0 m m
+  pub passed_none : (halt : Halt) (m : MachineView) → ArePassed answers halt 0 m m
   passed_none Never m = tt
   passed_none Each m = refl
   passed_none (At p at) m = refl
 
   -- some after others
-  both_passed : (halt : Halt) (i k : ℕ) (old m new : Shown) → HasPassed answers halt i old m → HasPassed answers halt k m new
+  both_passed : (halt : Halt) (i k : ℕ) (old m new : MachineView) → HasPassed answers halt i old m → HasPassed answers halt k m new
       → HasPassed answers halt (k + i) old new
   both_passed halt i zero old m new p same =
       let all : i ≡ zero + i = omega arith in
@@ -40,14 +40,14 @@ module _ (answers : ℕ → ℕ → Type 0) where
       subst (λ j. HasPassed answers halt j old new) all (between, both_passed halt i k old m between p q, last)
 
   -- the last of some calls by itself
-  last_one : (k : ℕ) (m new : Shown) (r : Progress) → (x : HasMadeSome answers k m new r) → HasMadeSome answers 1 x.between new r
+  last_one : (k : ℕ) (m new : MachineView) (r : Progress) → (x : HasMadeSome answers k m new r) → HasMadeSome answers 1 x.between new r
   last_one k m new r x =
       made_one answers x.between new r x.earlier.legal x.last x.answered
       (λ found. let all = x.all_on found in (all.legal, all.slots ∙ sym x.earlier.slots, all.room ∙ sym x.earlier.room))
 
-  module _ (old : Shown) (i : ℕ) (m : Shown) where
+  module _ (old : MachineView) (i : ℕ) (m : MachineView) where
     -- the calls before the last of one run more
-    pub before : (halt : Halt) (k : ℕ) (new : Shown) (r : Progress) → ArePassed answers halt i old m → (halt ≡ Each → k ≡ 1)
+    pub before : (halt : Halt) (k : ℕ) (new : MachineView) (r : Progress) → ArePassed answers halt i old m → (halt ≡ Each → k ≡ 1)
         → (x : HasMadeSome answers k m new r) → ArePassed answers (halt_inside halt) x.before m x.between → ArePassed answers halt (x.before + i) old x.between
     before Never k new r p singly x inside = tt
     before Each k new r p singly x inside =
@@ -57,7 +57,7 @@ module _ (answers : ℕ → ℕ → Type 0) where
     before (At q at) k new r p singly x inside = both_passed (At q at) i x.before old m x.between p inside
 
     -- and all of it, where they don't stop after the last
-    pub passed_more : (halt : Halt) (k : ℕ) (new : Shown) (r : Progress) → ArePassed answers halt i old m → (halt ≡ Each → k ≡ 1)
+    pub passed_more : (halt : Halt) (k : ℕ) (new : MachineView) (r : Progress) → ArePassed answers halt i old m → (halt ≡ Each → k ≡ 1)
         → (x : HasMadeSome answers k m new r) → ArePassed answers (halt_inside halt) x.before m x.between → found_live r ≡ true → stops halt new r ≡ false
         → ShowsSeen new → ArePassed answers halt (k + i) old new
     passed_more Never k new r p singly x inside live on seen = tt
@@ -71,7 +71,7 @@ module _ (answers : ℕ → ℕ → Type 0) where
         (x.between, before (At q at) k new r p singly x inside, record { progress = r; made = last_one k m new r x; live = live; goes_on = on; seen = seen })
 
     -- they came to an end
-    pub made_to : (halt : Halt) (left rest k : ℕ) (new : Shown) (r : Progress) → HasMadeOn answers i old m → ArePassed answers halt i old m
+    pub made_to : (halt : Halt) (left rest k : ℕ) (new : MachineView) (r : Progress) → HasMadeOn answers i old m → ArePassed answers halt i old m
         → (halt ≡ Each → k ≡ 1) → HasMadeSomePast answers (halt_inside halt) k m new r → k + i + rest ≡ left
         → (rest ≡ 0) ⊎ ((found_live r ≡ false) ⊎ (stops halt new r ≡ true)) → HasMadeTo answers halt left rest old new r
     unfolding some_more
@@ -86,7 +86,7 @@ module _ (answers : ℕ → ℕ → Type 0) where
         }
 
     -- so they did where they never stop
-    pub made_all_to : (left rest k : ℕ) (new : Shown) (r : Progress) → HasMadeOn answers i old m → HasMadeSome answers k m new r → k + i + rest ≡ left
+    pub made_all_to : (left rest k : ℕ) (new : MachineView) (r : Progress) → HasMadeOn answers i old m → HasMadeSome answers k m new r → k + i + rest ≡ left
         → (rest ≡ 0) ⊎ (found_live r ≡ false) → HasMadeTo answers Never left rest old new r
     unfolding some_more
     made_all_to left rest k new r h x count whole =
@@ -97,7 +97,7 @@ module _ (answers : ℕ → ℕ → Type 0) where
         ends (inr dead) = inr (inl dead)
 
     -- a call without memory, after k of a run
-    none_passed : (halt : Halt) (k : ℕ) (new : Shown) → ArePassed answers halt i old m → (halt ≡ Each → k ≡ 0) → HasMadeOn answers k m new
+    none_passed : (halt : Halt) (k : ℕ) (new : MachineView) → ArePassed answers halt i old m → (halt ≡ Each → k ≡ 0) → HasMadeOn answers k m new
         → ArePassed answers (halt_inside halt) k m new → ArePassed answers halt (k + i) old new
     none_passed Never k new p singly on inside = tt
     none_passed Each k new p singly on inside =
@@ -106,7 +106,7 @@ module _ (answers : ℕ → ℕ → Type 0) where
         (subst (λ j. HasPassed answers Each j old m) (sym (behind k i none)) p)
     none_passed (At q at) k new p singly on inside = both_passed (At q at) i k old m new p inside
 
-    pub but_to : (halt : Halt) (left rest most : ℕ) (new : Shown) → HasMadeOn answers i old m → ArePassed answers halt i old m → most ≤ rest
+    pub but_to : (halt : Halt) (left rest most : ℕ) (new : MachineView) → HasMadeOn answers i old m → ArePassed answers halt i old m → most ≤ rest
         → (halt ≡ Each → most ≡ 1) → i + rest ≡ left → (x : HasPassedButFewer answers (halt_inside halt) most m new)
         → HasMadeButTo answers halt left (rest - x.made) old new
     but_to halt left rest most new h p few singly count x =
@@ -120,13 +120,13 @@ module _ (answers : ℕ → ℕ → Type 0) where
         }
 
   -- where they never stop
-  never : (m : Shown) (r : Progress) → stops Never m r ≡ true → ⊥
+  never : (m : MachineView) (r : Progress) → stops Never m r ≡ true → ⊥
   never m (progress.Ran p) is = cc
   never m (progress.Held p need) is = cc
   never m progress.Idle is = cc
   never m progress.AllEnded is = cc
 
-  module _ (old : Shown) (left rest : ℕ) (new : Shown) where
+  module _ (old : MachineView) (left rest : ℕ) (new : MachineView) where
     pub at_most_of : (r : Progress) → HasMadeTo answers Never left rest old new r → HasMadeAtMost answers left old new r
     at_most_of r x = let count = x.count in record { made = x.made; some = x.some; within = omega arith; whole = ends x.whole }
       where

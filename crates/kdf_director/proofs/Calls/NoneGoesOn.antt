@@ -13,7 +13,7 @@ use Rattle.kdf_theory.specs.Next.{any_live, next}
 use Rattle.kdf_director.specs.Halts.{ArePassed, HasMadeSomePast, HasPassed}
 use Rattle.kdf_director.specs.Runs.{HasMadeOn}
 use Rattle.kdf_theory.specs.InARow.{waited_on}
-use Rattle.kdf_theory.specs.Shown.{Shown, state_at, world_of}
+use Rattle.kdf_theory.specs.MachineView.{MachineView, state_at, world_of}
 use Rattle.kdf_director.proofs.Calls.CallsAfterCalls.{made_more, made_none, made_one}
 use Rattle.kdf_director.proofs.Linking.EventsEntered.{shows}
 use Rattle.kdf_director.proofs.Linking.NextPrograms.{any_same, none_next}
@@ -22,7 +22,7 @@ use Rattle.kdf_director.proofs.Linking.TurnTaken.{HasAdvanced, holds_in, shown, 
 
 module _ (service : ℕ → ℕ → Type 0) (y : Standing) (J : List Entry) (room : ℕ) (a : Agrees y.slots y.reaches y.seats y.shared J)
     (have : y.holds ≡ holds_in y.seats J) (live : any_live y.slots J ≡ true) (none : first_in y (priorities J) ≡ None) where
-  abbrev m : ℕ → Shown
+  abbrev m : ℕ → MachineView
   m n = shown y.slots y.reaches y.seats y.shared (waited_on J n) room
 
   -- after n such calls

@@ -3,7 +3,7 @@ use Rattle.std.specs.Option.{option_map}
 use Rattle.std.proofs.Common.{◌≡◌, ℕ, zero, suc, ◌+◌, ◌<◌, ◌≤◌, Bool, true, false, ◌&&◌, eqb, List, length, Option, Some, None, cond, refl, sym, ap, ◌∙◌, subst}
 use Rattle.std.proofs.Common.{arith}
 use Rattle.kdf_processor.specs.declared.step.Step.{Step}
-use Rattle.kdf_yard.specs.declared.note.Note.{Note}
+use Rattle.kdf_yard.specs.declared.remark.Remark.{Remark}
 use Rattle.kdf_journal.specs.declared.entry.Entry.{Entry}
 use Rattle.kdf_journal.specs.declared.journal.TheConstants.{CALL_LIMIT}
 use Rattle.kdf_journal.specs.Counts.{calls, clock}
@@ -13,7 +13,7 @@ use Rattle.kdf_processor.specs.State.{State}
 use Rattle.kdf_director.specs.declared.halt.Halt.{Halt}
 use Rattle.kdf_director.specs.declared.halt.Halt.TheVariants.{Never, Each, At}
 use Rattle.kdf_director.specs.declared.machine.Progress.TheVariants as progress
-use Rattle.kdf_yard.specs.declared.note.Note.TheVariants.{Quiet}
+use Rattle.kdf_yard.specs.declared.remark.Remark.TheVariants.{Quiet}
 use Rattle.kdf_yard.specs.Fields.Batches.{of_seats, AreQuiet, HasTriedOn, Passes, is_at}
 use Rattle.kdf_director.specs.Fields.Following.{asked_at}
 use Rattle.kdf_yard.specs.Fields.Parts.{Seat}
@@ -24,7 +24,7 @@ use Rattle.kdf_director.specs.Halts.{halts, place_for, stops, ArePassed, HasPass
 use Rattle.kdf_yard.specs.Fields.Turned.{HasTriedAt}
 use Rattle.kdf_theory.specs.InARow.{ran_on}
 use Rattle.kdf_places.specs.Shared.{Shared}
-use Rattle.kdf_theory.specs.Shown.{Shown}
+use Rattle.kdf_theory.specs.MachineView.{MachineView}
 use Rattle.kdf_director.proofs.Calls.CallsAfterCalls.{made_one}
 use Rattle.kdf_director.proofs.Calls.GoingFurther.{going_further}
 use Rattle.kdf_theory.proofs.Course.OrdersInARow.{calls-ran_on}
@@ -52,14 +52,14 @@ module _ (answers : ℕ → ℕ → Type 0) (y : Standing) (J : List Entry) (roo
   abbrev place : Option ℕ
   place = place_for (At k at) p
 
-  abbrev Tries : List Seat → Shared → List Seat → Shared → Step → Note → Type 0
+  abbrev Tries : List Seat → Shared → List Seat → Shared → Step → Remark → Type 0
   Tries = HasTriedOn answers y.reaches (clock J) i
 
-  abbrev Past : List Seat → Shared → List Seat → Shared → Step → Note → Type 0
+  abbrev Past : List Seat → Shared → List Seat → Shared → Step → Remark → Type 0
   Past = Passes (of_seats i) place Tries
 
   -- so it is seen after n orders
-  abbrev shows_after : ℕ → List Seat → Shared → Shown
+  abbrev shows_after : ℕ → List Seat → Shared → MachineView
   shows_after n seats s = shown y.slots y.reaches seats s (ran_on J p n) room
 
   registers_are : (seats : List Seat) (s : Shared) (n : ℕ) → (own_state y.reaches seats s n i).registers ≡ of_seats i seats
@@ -95,7 +95,7 @@ module _ (answers : ℕ → ℕ → Type 0) (y : Standing) (J : List Entry) (roo
         }
 
   -- so do j more
-  pub passed_further : (n j : ℕ) (seats : List Seat) (s : Shared) (seats' : List Seat) (s' : Shared) (old : Shown)
+  pub passed_further : (n j : ℕ) (seats : List Seat) (s : Shared) (seats' : List Seat) (s' : Shared) (old : MachineView)
       → Goes n seats s → calls J + (n + j) ≤ CALL_LIMIT → AreQuiet Past j seats s seats' s' → HasPassed answers (At k at) n old (shows_after n seats s)
       → HasPassed answers (At k at) (n + j) old (shows_after (n + j) seats' s')
   passed_further n zero seats s seats' s' old g few same passed =
@@ -114,21 +114,21 @@ module _ (answers : ℕ → ℕ → Type 0) (y : Standing) (J : List Entry) (roo
       )
 
 module _ (answers : ℕ → ℕ → Type 0) (y : Standing) (J : List Entry) (room i : ℕ) where
-  abbrev after : ℕ → List Seat → Shared → Shown
+  abbrev after : ℕ → List Seat → Shared → MachineView
   after n seats s = shown y.slots y.reaches seats s (ran_on J (number_in y i) n) room
 
   -- the same wherever calls stop
   pub passing_one : (halt : Halt) → (halt ≡ Each → ⊥) → (n : ℕ) (seats : List Seat) (s : Shared) → IsGoingOn answers y J room i n seats s
       → (seats' : List Seat) (s' : Shared) → HasTriedAt answers y.reaches (clock J) i seats s seats' s' Done Quiet → IsRunning y.reaches seats' s'
       → calls (ran_on J (number_in y i) n) < CALL_LIMIT
-      → is_at (place_for halt (number_in y i)) (of_seats i seats') ≡ false → (old : Shown)
+      → is_at (place_for halt (number_in y i)) (of_seats i seats') ≡ false → (old : MachineView)
       → ArePassed answers halt n old (after n seats s) → ArePassed answers halt (suc n) old (after (suc n) seats' s')
   passing_one Never inside n seats s g seats' s' tried run few past old passed = tt
   passing_one Each inside n seats s g seats' s' tried run few past old passed = absurd (inside refl)
   passing_one (At k at) inside n seats s g seats' s' tried run few past old passed =
       (after n seats s, passed, passed_one answers y J room i k at n seats s g seats' s' tried run few past)
 
-  pub passing_further : (halt : Halt) → (halt ≡ Each → ⊥) → (n j : ℕ) (seats : List Seat) (s : Shared) (seats' : List Seat) (s' : Shared) (old : Shown)
+  pub passing_further : (halt : Halt) → (halt ≡ Each → ⊥) → (n j : ℕ) (seats : List Seat) (s : Shared) (seats' : List Seat) (s' : Shared) (old : MachineView)
       → IsGoingOn answers y J room i n seats s → calls J + (n + j) ≤ CALL_LIMIT
       → AreQuiet (Passes (of_seats i) (place_for halt (number_in y i)) (HasTriedOn answers y.reaches (clock J) i)) j seats s seats' s'
       → ArePassed answers halt n old (after n seats s) → ArePassed answers halt (n + j) old (after (n + j) seats' s')

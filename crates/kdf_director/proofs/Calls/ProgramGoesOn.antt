@@ -7,15 +7,15 @@ use Rattle.kdf_journal.specs.declared.journal.TheConstants.{CALL_LIMIT}
 use Rattle.kdf_journal.specs.Counts.{calls, clock}
 use Rattle.kdf_journal.specs.Steps.{Quiet, Obeys, added}
 use Rattle.kdf_processor.specs.declared.step.Need.{Need}
-use Rattle.kdf_processor.specs.declared.step.Step.{Step as Ending}
+use Rattle.kdf_processor.specs.declared.step.Step.{Step}
 use Rattle.kdf_processor.specs.declared.step.Step.TheVariants as ending
 use Rattle.kdf_processor.specs.Lone.{is_live}
 use Rattle.kdf_transfer.specs.Slots.{Slot}
 use Rattle.kdf_course.specs.World as course
 use Rattle.kdf_director.specs.declared.machine.Progress.{Progress}
 use Rattle.kdf_director.specs.declared.machine.Progress.TheVariants as progress
-use Rattle.kdf_yard.specs.declared.note.Note.{Note as Noted}
-use Rattle.kdf_yard.specs.declared.note.Note.TheVariants as noted
+use Rattle.kdf_yard.specs.declared.remark.Remark.{Remark}
+use Rattle.kdf_yard.specs.declared.remark.Remark.TheVariants as noted
 use Rattle.kdf_director.specs.Fields.Agrees.{Agrees}
 use Rattle.kdf_yard.specs.Fields.Yards.{number_in}
 use Rattle.kdf_theory.specs.Next.{lives, next}
@@ -29,7 +29,7 @@ use Rattle.kdf_director.specs.Runs.{HasMadeOn}
 use Rattle.kdf_yard.specs.Fields.Turned.{HasTriedAt, HasTurned}
 use Rattle.kdf_theory.specs.InARow.{ran_on}
 use Rattle.kdf_yard.specs.Fields.Shared.{moment}
-use Rattle.kdf_theory.specs.Shown.{Shown, state_at, world_of}
+use Rattle.kdf_theory.specs.MachineView.{MachineView, state_at, world_of}
 use Rattle.kdf_yard.specs.Fields.Standing.{Standing}
 use Rattle.kdf_director.specs.Fields.TurnTaken.{HasTaken, progress_of, step_told}
 use Rattle.kdf_theory.specs.World.{hold_left}
@@ -50,7 +50,7 @@ set_on holds i zero hold = refl
 set_on holds i (suc n) hold = set-set holds i None hold
 
 -- the turn of a program is found of a live one
-turn_live : (p : ℕ) (ended : Ending) → found_live (progress_of p ended) ≡ true
+turn_live : (p : ℕ) (ended : Step) → found_live (progress_of p ended) ≡ true
 turn_live p (ending.Held need) = refl
 turn_live p ended = refl
 
@@ -77,13 +77,13 @@ module _ (service : ℕ → ℕ → Type 0) (y : Standing) (J : List Entry) (roo
   abbrev p : ℕ
   p = number_in y i
 
-  abbrev old : Shown
+  abbrev old : MachineView
   old = shown slots reaches y.seats y.shared J room
 
   abbrev K : List Entry
   K = ran_on J p n
 
-  abbrev m : Shown
+  abbrev m : MachineView
   m = shown slots reaches seats s K room
 
   is_alive : lives slots K p ≡ true
@@ -98,7 +98,7 @@ module _ (service : ℕ → ℕ → Type 0) (y : Standing) (J : List Entry) (roo
   few_on = few_ran slots reaches seats s K g.agrees i g.there live_on
 
   -- it tries its next order
-  module _ (seats' : List Seat) (s' : Shared) (ended : Ending) (beside : Noted) (tried : HasTriedAt service reaches (clock J) i seats s seats' s' ended beside)
+  module _ (seats' : List Seat) (s' : Shared) (ended : Step) (beside : Remark) (tried : HasTriedAt service reaches (clock J) i seats s seats' s' ended beside)
       (run : IsRunning reaches seats' s') (few : calls K < CALL_LIMIT) where
     turned : HasTurned reaches (moment (clock K) (unwrap_or tried.heard 0)) i seats s seats' s' ended beside
     turned = subst (λ t. HasTurned reaches (moment t (unwrap_or tried.heard 0)) i seats s seats' s' ended beside) (sym (clock-ran_on J p n)) tried.turned

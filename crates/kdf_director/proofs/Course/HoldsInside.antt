@@ -5,7 +5,7 @@ use Rattle.std.proofs.Common.{◌≡◌, ◌≢◌, ℕ, Bool, true, false, eqb,
 use Rattle.std.proofs.lemmas.Bool.{cases_Bool, cases_eq, eq-eqb, ne_eqb}
 use Rattle.kdf_journal.specs.declared.entry.Entry.{Entry}
 use Rattle.kdf_journal.specs.Counts.{Hold, ByGroup, ByDevice, answers, last_hold, ran, ByPool}
-use Rattle.kdf_journal.specs.Steps.{Step, Obeys, Holds, Waits, Moves, Ends, Sets, Swaps, journal_of, steps}
+use Rattle.kdf_journal.specs.Steps.{JournalStep, Obeys, Holds, Waits, Moves, Ends, Sets, Swaps, journal_of, steps}
 use Rattle.kdf_journal.proofs.Added.{last_hold-added}
 use Rattle.kdf_processor.specs.declared.step.Need.{Need}
 use Rattle.kdf_processor.specs.Needs.{needs}
@@ -69,7 +69,7 @@ near_left size p q new old its others =
     (λ (ne : p ≢ q). subst (λ b. IsNearHold size (option_map need_of (cond b new old))) (sym (ne_eqb p q ne)) others)
     (cases_eq p q)
 
-near_more : (slots : List Slot) (P : List Step) → EachMeets slots P → (q : ℕ) → IsNearHold (size_of slots q) (held_by q (journal_of P))
+near_more : (slots : List Slot) (P : List JournalStep) → EachMeets slots P → (q : ℕ) → IsNearHold (size_of slots q) (held_by q (journal_of P))
 near_more slots [] m q = tt
 near_more slots (Obeys p note ∷ P) m q =
     rw (last_hold-added q (journal_of P) (Obeys p note))

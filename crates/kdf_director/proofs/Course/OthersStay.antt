@@ -3,7 +3,7 @@ use Rattle.std.proofs.Common.{◌≡◌, ◌≢◌, ℕ, List, [], ◌∷◌, ma
 use Rattle.std.proofs.Math.Path.{fun_ext}
 use Rattle.std.proofs.lemmas.Bool.{cases_eq, eq-eqb, ne_eqb}
 use Rattle.kdf_journal.specs.Counts.{moved_if, pending}
-use Rattle.kdf_journal.specs.Steps.{Step, Moves, Ends, Sets, Swaps, added}
+use Rattle.kdf_journal.specs.Steps.{JournalStep, Moves, Ends, Sets, Swaps, added}
 use Rattle.kdf_journal.proofs.Added.{answers_by, moved_by, pending_by, ran_by}
 use Rattle.kdf_transfer.specs.Slots.{Slot}
 use Rattle.kdf_processor.specs.State.{State}
@@ -11,7 +11,7 @@ use Rattle.kdf_director.specs.Advance.{OthersStay}
 use Rattle.kdf_theory.specs.Flights.{Flight}
 use Rattle.kdf_theory.specs.Legal.{IsLegal}
 use Rattle.kdf_theory.specs.Seen.{seen}
-use Rattle.kdf_theory.specs.Shown.{Shown, ShowsSeen, entered, state_in, state_of}
+use Rattle.kdf_theory.specs.MachineView.{MachineView, ShowsSeen, entered, state_in, state_of}
 use Rattle.kdf_theory.specs.Slots.{AreSlots}
 use Rattle.kdf_theory.specs.ByJournal.{flights_of, is_of, seen_of}
 use Rattle.kdf_theory.proofs.Course.LegalFacts.{legal_asked}
@@ -39,11 +39,11 @@ none_of : (o : Option Flight) → is_some o ≡ false → o ≡ None
 none_of None is = refl
 none_of (Some f) is = cc
 
-module _ (old new : Shown) (are : AreSlots old.slots) (l : IsLegal old.slots old.journal) (shows : ShowsSeen old) where
-  stays : (st : Step) (p : ℕ) → new ≡ entered old st → seen_of old.slots (added old.journal st) p ≡ seen_of old.slots old.journal p
+module _ (old new : MachineView) (are : AreSlots old.slots) (l : IsLegal old.slots old.journal) (shows : ShowsSeen old) where
+  stays : (st : JournalStep) (p : ℕ) → new ≡ entered old st → seen_of old.slots (added old.journal st) p ≡ seen_of old.slots old.journal p
       → state_of new p ≡ state_of old p
   stays st p e same =
-      ap (λ (m : Shown). state_of m p) e
+      ap (λ (m : MachineView). state_of m p) e
       ∙ same_in (seen_of old.slots (added old.journal st)) (seen_of old.slots old.journal) p same old.slots
       ∙ sym (ap (λ (xs : List State). state_in old.slots xs p) shows)
 
@@ -65,11 +65,11 @@ module _ (old new : Shown) (are : AreSlots old.slots) (l : IsLegal old.slots old
       (own-same old.slots old.journal (Ends d) p refl refl))
 
   -- an event that runs no program and touches no transfer
-  quiet : (st : Step) → ((p : ℕ) → ran_by p st ≡ 0) → ((p : ℕ) → answers_by p st ≡ [])
+  quiet : (st : JournalStep) → ((p : ℕ) → ran_by p st ≡ 0) → ((p : ℕ) → answers_by p st ≡ [])
       → ((d : ℕ) → pending_by d (pending d old.journal) st ≡ pending d old.journal)
       → ((d : ℕ) → moved_by d (moved_if d old.journal) st ≡ moved_if d old.journal) → new ≡ entered old st → new.states ≡ old.states
   quiet st none silent same words e =
-      ap (λ (m : Shown). m.states) e
+      ap (λ (m : MachineView). m.states) e
       ∙ ap (λ (f : ℕ → State). map (λ (x : Slot). f x.p) old.slots)
       (fun_ext
       (λ p. ap₂ seen

@@ -19,7 +19,7 @@ use Rattle.kdf_yard.specs.Fields.Parts.{Reach, Seat}
 use Rattle.kdf_yard.specs.Fields.Running.{reaches_in, seats_in, IsRunning}
 use Rattle.kdf_yard.specs.Fields.Standing.{Standing, standing, IsYard}
 use Rattle.kdf_director.specs.Fields.Viewed.{shown_of}
-use Rattle.kdf_theory.specs.Shown.{Shown, entered}
+use Rattle.kdf_theory.specs.MachineView.{MachineView, entered}
 use Rattle.kdf_director.proofs.Linking.EventsEntered.{ended, entered_more, moved, ready_more, shown_seen, exchanged, timed}
 use Rattle.kdf_director.proofs.Course.OthersStay.{stay-ended, stay-exchanged, stay-moved, stay-timed}
 use Rattle.kdf_yard.proofs.Turns.FlightsMove.{back, ended_running, flown_running}
@@ -79,10 +79,10 @@ module _ (m : Inside) (is : IsMachine m) (d : ℕ) (lt : d < 16) where
 
 module _ (y : Standing) (J : Recorded) (room : ℕ) (ready : IsReady y J room) (some : 0 < room) (z : Standing) (K : Recorded) (taken : J.spare ≤ K.spare + 1)
   where
-    abbrev old : Shown
+    abbrev old : MachineView
     old = shown_of y J room
 
-    abbrev new : Shown
+    abbrev new : MachineView
     new = shown_of z K (room - 1)
 
     module _ (d n : ℕ) (lt : d < 16) (few : n ≤ 4096) (is : z ≡ record y { shared = after_move d n y.shared })
@@ -114,10 +114,10 @@ module _ (y : Standing) (J : Recorded) (room : ℕ) (ready : IsReady y J room) (
       others_ended = stay-ended old new ready.agrees.are ready.agrees.legal (shown_seen y J room ready) d shown_ended
 
 module _ (y : Standing) (J : Recorded) (room : ℕ) (ready : IsReady y J room) (some : 0 < room) (K : Recorded) (taken : J.spare ≤ K.spare + 1) where
-  abbrev was : Shown
+  abbrev was : MachineView
   was = shown_of y J room
 
-  abbrev then : Shown
+  abbrev then : MachineView
   then = shown_of y K (room - 1)
 
   module _ (t : ℕ) (rises : clock J.entries ≤ t) (journal : K.entries ≡ added J.entries (Sets t)) where

@@ -8,7 +8,7 @@ use Rattle.kdf_journal.specs.declared.entry.Entry.{Entry}
 use Rattle.kdf_journal.specs.declared.journal.TheConstants.{MOVE_LIMIT}
 use Rattle.kdf_journal.specs.Counts.{clock, last_hold, moves}
 use Rattle.kdf_journal.specs.Recorded.{Recorded}
-use Rattle.kdf_journal.specs.Steps.{Step, Moves, Ends, Sets, Swaps, added}
+use Rattle.kdf_journal.specs.Steps.{JournalStep, Moves, Ends, Sets, Swaps, added}
 use Rattle.kdf_journal.proofs.Added.{calls_by, calls-added, hold_by, holder-quiet, last_hold-added, moves_by, moves-added}
 use Rattle.kdf_transfer.specs.Slots.{Slot}
 use Rattle.kdf_processor.specs.State.{State}
@@ -21,7 +21,7 @@ use Rattle.kdf_transfer.specs.ByNumber.{device_count}
 use Rattle.kdf_yard.specs.Fields.Parts.{Reach, Seat}
 use Rattle.kdf_places.specs.Shared.{Shared}
 use Rattle.kdf_places.specs.Transfers.{after_end, after_move}
-use Rattle.kdf_theory.specs.Shown.{entered, states_seen}
+use Rattle.kdf_theory.specs.MachineView.{entered, states_seen}
 use Rattle.kdf_director.specs.Fields.Viewed.{states_in, shown_of}
 use Rattle.kdf_yard.specs.Fields.Standing.{Standing}
 use Rattle.kdf_theory.specs.ByJournal.{lone_world, seen_of}
@@ -55,7 +55,7 @@ module _ (slots : List Slot) (reaches : List Reach) (seats : List Seat) (s : Sha
       ∙ map_twice (seen_of slots J) (λ (x : Slot). x.p) slots
 
   -- ---- an event more
-  more : (st : Step) (s' : Shared) → Meets (lone_world slots J) slots J 0 st → calls_by st ≡ 0 → moves J + moves_by st ≤ MOVE_LIMIT
+  more : (st : JournalStep) (s' : Shared) → Meets (lone_world slots J) slots J 0 st → calls_by st ≡ 0 → moves J + moves_by st ≤ MOVE_LIMIT
       → IsRunning reaches seats s' → AreFollowing slots (added J st) reaches seats s' → AreLent (added J st) reaches seats
       → Agrees slots reaches seats s' (added J st)
   more st s' meets none few running following lent =
@@ -103,7 +103,7 @@ module _ (y : Standing) (J : Recorded) (room : ℕ) (ready : IsReady y J room) w
   shown_seen = shows y.slots y.reaches y.seats y.shared J.entries ready.agrees
 
   -- an event is entered, of which what is shared is this
-  module _ (some : 0 < room) (z : Standing) (K : Recorded) (taken : J.spare ≤ K.spare + 1) (st : Step) (t : Shared) (is : z ≡ record y { shared = t })
+  module _ (some : 0 < room) (z : Standing) (K : Recorded) (taken : J.spare ≤ K.spare + 1) (st : JournalStep) (t : Shared) (is : z ≡ record y { shared = t })
       (quiet : (p : ℕ) → hold_by p (last_hold p J.entries) st ≡ last_hold p J.entries) (journal : K.entries ≡ added J.entries st) (words : moves_by st ≤ 4096)
       (agrees : Agrees y.slots y.reaches y.seats t (added J.entries st)) where
     -- the holds stay where a step names no program

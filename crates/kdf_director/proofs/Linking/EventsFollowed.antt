@@ -5,7 +5,7 @@ use Rattle.std.proofs.lemmas.Bool.{cases_eq, eq-eqb, ne_eqb}
 use Rattle.std.proofs.lemmas.List.{append-nil, get_or-set_same, get_or-set_other}
 use Rattle.kdf_journal.specs.declared.entry.Entry.{Entry}
 use Rattle.kdf_journal.specs.Counts.{Hold, answers, pending}
-use Rattle.kdf_journal.specs.Steps.{Step, Holds, Waits, Moves, Ends, Sets, Swaps, added}
+use Rattle.kdf_journal.specs.Steps.{JournalStep, Holds, Waits, Moves, Ends, Sets, Swaps, added}
 use Rattle.kdf_journal.proofs.Added.{answers_by, answers-added, pending_by, pending-added, ran_by, moved_by}
 use Rattle.kdf_journal.specs.Counts.{moved_if}
 use Rattle.kdf_transfer.specs.Slots.{Slot}
@@ -27,7 +27,7 @@ use Rattle.kdf_theory.proofs.Course.FlightsOnCourse.{IsOnCourse, flights-quiet, 
 use Rattle.kdf_theory.proofs.Course.OwnSteps.{own-same}
 
 -- a step that answers none leaves the answers
-pub answers_same : (q : ℕ) (J : List Entry) (st : Step) → answers_by q st ≡ [] → answers q (added J st) ≡ answers q J
+pub answers_same : (q : ℕ) (J : List Entry) (st : JournalStep) → answers_by q st ≡ [] → answers q (added J st) ≡ answers q J
 answers_same q J st silent = answers-added q J st ∙ ap (λ vs. answers q J ++ vs) silent ∙ append-nil (answers q J)
 
 moved_some : (n : ℕ) (o : Option Held) → is_some (moved_held n o) ≡ is_some o
@@ -49,7 +49,7 @@ module _ (slots : List Slot) (J : List Entry) (reaches : List Reach) (seats : Li
   course : (p : ℕ) → IsOnCourse slots J p
   course p = legal-course slots J are legal p
 
-  same_asked : (i : ℕ) (st : Step) → answers_by (seat_at seats i).p st ≡ [] → asked_at seats (added J st) i ≡ asked_at seats J i
+  same_asked : (i : ℕ) (st : JournalStep) → answers_by (seat_at seats i).p st ≡ [] → asked_at seats (added J st) i ≡ asked_at seats J i
   same_asked i st silent = ap length (answers_same (seat_at seats i).p J st silent)
 
   -- words move, and a transfer ends
@@ -104,7 +104,7 @@ module _ (slots : List Slot) (J : List Entry) (reaches : List Reach) (seats : Li
         }
 
   -- a step of no order, that touches no transfer
-  quiet_follows : (st : Step) → ((p : ℕ) → ran_by p st ≡ 0) → ((p : ℕ) → answers_by p st ≡ []) → ((d : ℕ) → pending_by d (pending d J) st ≡ pending d J)
+  quiet_follows : (st : JournalStep) → ((p : ℕ) → ran_by p st ≡ 0) → ((p : ℕ) → answers_by p st ≡ []) → ((d : ℕ) → pending_by d (pending d J) st ≡ pending d J)
       → ((d : ℕ) → moved_by d (moved_if d J) st ≡ moved_if d J) → AreFollowing slots (added J st) reaches seats s
   quiet_follows st none silent same words =
       record {
@@ -118,7 +118,7 @@ module _ (slots : List Slot) (J : List Entry) (reaches : List Reach) (seats : Li
       }
 
   -- what is seen then is what was seen
-  quiet_seen : (st : Step) → ((p : ℕ) → ran_by p st ≡ 0) → ((p : ℕ) → answers_by p st ≡ []) → ((d : ℕ) → pending_by d (pending d J) st ≡ pending d J)
+  quiet_seen : (st : JournalStep) → ((p : ℕ) → ran_by p st ≡ 0) → ((p : ℕ) → answers_by p st ≡ []) → ((d : ℕ) → pending_by d (pending d J) st ≡ pending d J)
       → ((d : ℕ) → moved_by d (moved_if d J) st ≡ moved_if d J) → (p : ℕ) → seen_of slots (added J st) p ≡ seen_of slots J p
   quiet_seen st none silent same words p =
       ap₂ seen (fun_ext (flights-quiet slots J st p (asked p) same words (course p))) (own-same slots J st p (none p) (silent p))

@@ -33,7 +33,7 @@ use Rattle.kdf_yard.specs.Fields.Parts.{Reach, Seat, own_stock, seat_of, window_
 use Rattle.kdf_places.specs.Shared.{Shared, shared_in}
 use Rattle.kdf_places.specs.Words.{word_at_place}
 use Rattle.kdf_yard.specs.Fields.Running.{own_state, part_at, reach_at, reaches_in, seat_at, seats_in}
-use Rattle.kdf_theory.specs.Shown.{IsDeviceAt, Shown, state_of}
+use Rattle.kdf_theory.specs.MachineView.{IsDeviceAt, MachineView, state_of}
 use Rattle.kdf_theory.specs.Slots.{slot_of}
 use Rattle.kdf_places.specs.Spots.{Held, leases_of, spot_at, spot_of}
 use Rattle.kdf_places.specs.declared.place.Place.{Place}
@@ -110,7 +110,7 @@ module _ (fields : Inside) (is_machine : IsMachine fields) where
   abbrev s : Shared
   s = shared_in store places
 
-  abbrev m : Shown
+  abbrev m : MachineView
   m = shown fields
 
   abbrev has_number : ℕ → Seat → Bool

@@ -5,10 +5,10 @@ use Rattle.kdf_journal.specs.declared.entry.Entry.{Entry}
 use Rattle.kdf_journal.specs.Counts.{holder, over, taker, unless_over}
 use Rattle.kdf_journal.specs.Steps.{Note, Obeys, Took, Gave, added}
 use Rattle.kdf_journal.proofs.Added.{ends_by, over-added, taker_by, taker-added}
-use Rattle.kdf_processor.specs.declared.step.Step.{Step as Ending}
+use Rattle.kdf_processor.specs.declared.step.Step.{Step}
 use Rattle.kdf_processor.specs.declared.step.Step.TheVariants as ending
-use Rattle.kdf_yard.specs.declared.note.Note.{Note as Noted}
-use Rattle.kdf_yard.specs.declared.note.Note.TheVariants as noted
+use Rattle.kdf_yard.specs.declared.remark.Remark.{Remark}
+use Rattle.kdf_yard.specs.declared.remark.Remark.TheVariants as noted
 use Rattle.kdf_director.specs.Advance.{note_beside, note_told}
 use Rattle.kdf_yard.specs.Fields.Settled.{holder_left, holder_over}
 
@@ -50,12 +50,12 @@ ends-it p d J note live ends still =
         (λ (ne : p ≢ q). ap (λ b. cond (b || over q J) None (Some q)) (ne_eqb p q ne) ∙ by_over q ne (over q J))
         (cases_eq p q)
 
-abbrev pub IsGoing : Ending → Type 0
+abbrev pub IsGoing : Step → Type 0
 IsGoing (ending.Held need) = ⊥
 IsGoing ended = Unit {0}
 
 -- a device of the pool after the turn of a program that wasn't held
-pub holder_then : (p k d : ℕ) (J : List Entry) (ended : Ending) (beside : Noted) → IsGoing ended → not (over p J) ≡ true
+pub holder_then : (p k d : ℕ) (J : List Entry) (ended : Step) (beside : Remark) → IsGoing ended → not (over p J) ≡ true
     → holder d (added J (Obeys p (note_told k ended beside))) ≡ holder_left p ended beside d (holder d J)
 holder_then p k d J (ending.Fails kind) beside going live = ends-it p d J (note_told k (ending.Fails kind) beside) live (λ q. refl) refl
 holder_then p k d J ending.Ends beside going live = ends-it p d J (note_told k ending.Ends beside) live (λ q. refl) refl

@@ -30,7 +30,7 @@ use Rattle.kdf_yard.specs.Fields.Parts.{Part, Reach, Seat, reach_of, window_at}
 use Rattle.kdf_places.specs.Shared.{Shared}
 use Rattle.kdf_places.specs.Words.{has_group, word_at_place, word_where}
 use Rattle.kdf_yard.specs.Fields.Running.{no_seat, own_state, part_at, reach_at, reaches_in, seat_at}
-use Rattle.kdf_theory.specs.Shown.{Shown, state_of}
+use Rattle.kdf_theory.specs.MachineView.{MachineView, state_of}
 use Rattle.kdf_director.specs.Fields.Viewed.{states_in}
 use Rattle.kdf_theory.specs.Seen.{touched_below}
 use Rattle.kdf_yard.specs.Fields.Sound.{IsFlightOf}
@@ -117,7 +117,7 @@ module _ (windows : List Window) (loads : List Loaded) (seats : List Seat) (s : 
   abbrev reaches : List Reach
   reaches = reaches_in windows loads
 
-  abbrev m : Shown
+  abbrev m : MachineView
   m = record { slots = slots; states = states_in reaches seats s J; journal = J; room = room }
 
   abbrev own_at : ℕ → State

@@ -9,10 +9,10 @@ use Rattle.kdf_journal.specs.declared.journal.TheConstants.{CALL_LIMIT}
 use Rattle.kdf_journal.specs.Counts.{calls, clock, holder}
 use Rattle.kdf_journal.specs.Steps.{Note, Obeys, added}
 use Rattle.kdf_journal.proofs.Added.{calls-added, moves-added}
-use Rattle.kdf_processor.specs.declared.step.Step.{Step as Ending}
+use Rattle.kdf_processor.specs.declared.step.Step.{Step}
 use Rattle.kdf_processor.specs.declared.step.Step.TheVariants as ending
 use Rattle.kdf_processor.specs.Ahead.{word_asked}
-use Rattle.kdf_processor.specs.Effect.{Question, Act, Nothing, Writes, Starts, Asks, Acquires, Releases, Spools, FreeOf, Effect, Failing, Ending as Finishing}
+use Rattle.kdf_processor.specs.Effect.{Question, Act, Nothing, Writes, Starts, Asks, Acquires, Releases, Spools, FreeOf, Effect, Failing, Ending}
 use Rattle.kdf_processor.specs.Needs.{needs, next_effect}
 use Rattle.kdf_processor.specs.Row.{done_by}
 use Rattle.kdf_processor.specs.Outcome.{Outcome}
@@ -25,12 +25,12 @@ use Rattle.kdf_yard.specs.Fields.Running.{AreLent, outcome_at, hold_of, own_stat
 use Rattle.kdf_director.specs.Fields.Following.{asked_at}
 use Rattle.kdf_theory.specs.Legal.{Meets, note_for, note_of, note_of_outcome}
 use Rattle.kdf_theory.specs.Next.{next}
-use Rattle.kdf_yard.specs.Fields.Notes as notes
+use Rattle.kdf_yard.specs.Fields.Remarks as notes
 use Rattle.kdf_yard.specs.Fields.Parts.{Reach, Seat}
 use Rattle.kdf_places.specs.Shared.{Shared}
 use Rattle.kdf_yard.specs.Fields.Settled.{holder_left}
 use Rattle.kdf_theory.specs.Seen.{begun_row, seen}
-use Rattle.kdf_theory.specs.Shown.{Shown, state_at, state_in, world_of}
+use Rattle.kdf_theory.specs.MachineView.{MachineView, state_at, state_in, world_of}
 use Rattle.kdf_director.specs.Fields.Viewed.{states_in}
 use Rattle.kdf_theory.specs.Slots.{slot_of, start_of}
 use Rattle.kdf_theory.specs.ByJournal.{flights_of, is_pending_after, lone_world, mine_after, own, seen_of, seen_world}
@@ -39,14 +39,14 @@ use Rattle.kdf_yard.specs.Fields.Turned.{word_over, HasTurned}
 use Rattle.std.specs.Option.{option_map}
 use Rattle.kdf_theory.specs.World as world
 use Rattle.kdf_theory.specs.World.{first_need}
-use Rattle.kdf_yard.specs.declared.note.Note.{Note as Noted}
+use Rattle.kdf_yard.specs.declared.remark.Remark.{Remark}
 use Rattle.kdf_director.proofs.Linking.EventsEntered.{shows}
 use Rattle.kdf_director.proofs.Linking.OrdersFollowed.{outcome_is, turn_follows}
 use Rattle.kdf_director.proofs.Linking.JudgedAlike.{hold_same}
 use Rattle.kdf_director.proofs.Linking.HoldersChange.{IsGoing, holder_then}
 use Rattle.kdf_theory.proofs.Course.WorldsJudged.{legal_added, true_added}
 use Rattle.kdf_theory.proofs.Course.OrdersObeyed.{obeys-others, obeys-seen}
-use Rattle.kdf_theory.proofs.Course.FlightsOnCourse.{apart-mine, free as calm, legal-course}
+use Rattle.kdf_theory.proofs.Course.FlightsOnCourse.{apart-mine, free_hides_none, legal-course}
 use Rattle.kdf_theory.proofs.Course.SeenJournals.{same-need, same-note}
 use Rattle.kdf_theory.proofs.Course.Worlds.{next-world, next_on, next_slot}
 use Rattle.kdf_yard.specs.Fields.Shared.{moment}
@@ -98,7 +98,7 @@ states_row g h p answer this others (x ∷ slots) pairs =
     rest = map (λ (y : Slot). g y.p) slots
 
 -- ---- notes
-told_act : (k : ℕ) (act : Act) (step : Ending) → note_told k step (notes.note_of act) ≡ note_for k step act
+told_act : (k : ℕ) (act : Act) (step : Step) → note_told k step (notes.note_of act) ≡ note_for k step act
 told_act k Nothing (ending.Fails kind) = refl
 told_act k Nothing ending.Ends = refl
 told_act k Nothing ending.Done = refl
@@ -139,7 +139,7 @@ told_act k (Spools stream first last) (ending.Held need) = refl
 -- what an effect comes to is no hold
 done_going : (answer : Question → ℕ) (e : Effect) (s : State) → IsGoing (done_by answer e s).step
 done_going answer (Failing kind) s = tt
-done_going answer (Finishing after) s = tt
+done_going answer (Ending after) s = tt
 done_going answer e s = tt
 
 -- ---- a machine
@@ -148,7 +148,7 @@ module _ (slots : List Slot) (reaches : List Reach) (seats : List Seat) (s : Sha
   abbrev p : ℕ
   p = (seat_at seats i).p
 
-  abbrev m : Shown
+  abbrev m : MachineView
   m = record { slots = slots; states = states_in reaches seats s J; journal = J; room = room }
 
   -- its own state is what is seen of it
@@ -180,7 +180,7 @@ module _ (slots : List Slot) (reaches : List Reach) (seats : List Seat) (s : Sha
     lone_heard =
         subst (λ (e : Effect). IfSome (word_asked e) (λ word. (word < 2 ^ 48) × answers word (unwrap_or heard 0)))
         (ap next_effect (a.following.each i lt).is_seen
-        ∙ sym (same_next (flights_of slots J p) (mine_after J p) (own slots J p) (apart-mine slots J p (calm slots J p (lone_free free)))))
+        ∙ sym (same_next (flights_of slots J p) (mine_after J p) (own slots J p) (apart-mine slots J p (free_hides_none slots J p (lone_free free)))))
         (own_heard (asked_at seats J i))
 
     pub state_heard : is_some (slot_of slots p) ≡ true → IsHeard answers (state_at m p) (unwrap_or heard 0)
@@ -216,7 +216,7 @@ module _ (slots : List Slot) (reaches : List Reach) (seats : List Seat) (s : Sha
     noted_own : note_of (state_at m p) (truth (world_of m) J p heard) ≡ noted
     noted_own = ap (λ (x : State). note_of x answer) (state_is there) ∙ same-note slots J p answer free_lone
 
-    module _ (seats' : List Seat) (s' : Shared) (ended : Ending) (beside : Noted)
+    module _ (seats' : List Seat) (s' : Shared) (ended : Step) (beside : Remark)
         (turned : HasTurned reaches (moment (clock J) heard) i seats s seats' s' ended beside) (run : IsRunning reaches seats' s') (few : calls J < CALL_LIMIT)
         (numbers : map (λ (x : Seat). x.p) seats' ≡ map (λ (x : Seat). x.p) seats) where
       abbrev o : Outcome

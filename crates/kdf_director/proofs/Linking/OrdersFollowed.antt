@@ -41,8 +41,8 @@ use Rattle.kdf_places.specs.Shared.{Shared}
 use Rattle.kdf_yard.specs.Fields.Shared.{Setting, view, after_act, moment}
 use Rattle.kdf_places.specs.Transfers.{start_lease, start_spot}
 use Rattle.kdf_yard.specs.Fields.Turned.{HasTurned}
-use Rattle.kdf_yard.specs.declared.note.Note.{Note as Noted}
-use Rattle.kdf_processor.specs.declared.step.Step.{Step as Ended}
+use Rattle.kdf_yard.specs.declared.remark.Remark.{Remark}
+use Rattle.kdf_processor.specs.declared.step.Step.{Step}
 use Rattle.kdf_director.specs.Fields.Following.{IsLink, Linked, IsFollowing, AreFollowing, asked_at}
 use Rattle.kdf_places.proofs.GroupsKept.{free_here}
 use Rattle.kdf_theory.proofs.Seen.OrdersSeen.{same_next, with_flight_is, with_flight_other}
@@ -55,7 +55,7 @@ use Rattle.kdf_theory.proofs.Course.LegalFacts.{legal_alive}
 use Rattle.kdf_director.proofs.Linking.TransfersLinked.{follow_part, linked_none, linked_set}
 use Rattle.kdf_theory.proofs.Course.OrdersObeyed.{obeys-flights, obeys-others, obeys-seen}
 use Rattle.kdf_theory.proofs.Course.WorldsJudged.{free_need}
-use Rattle.kdf_theory.proofs.Course.FlightsOnCourse.{IsOnCourse, apart-mine, free, legal-course}
+use Rattle.kdf_theory.proofs.Course.FlightsOnCourse.{IsOnCourse, apart-mine, free_hides_none, legal-course}
 use Rattle.kdf_theory.proofs.Course.SeenJournals.{same-need, same-note}
 use Rattle.kdf_theory.proofs.Seen.SeenStates.{seen_apart, seen_device_at, seen_number, seen_word_at}
 use Rattle.kdf_yard.proofs.Physical.PlacesAlike.{same_at}
@@ -161,7 +161,7 @@ module _ (slots : List Slot) (J : List Entry) (reaches : List Reach) (seats : Li
 
   -- its next order is that of the lone state
   next_is : next_effect mine ≡ next_effect l
-  next_is = ap next_effect fol.is_seen ∙ sym (same_next fs (mine_after J p) l (apart-mine slots J p (free slots J p none_holds)))
+  next_is = ap next_effect fol.is_seen ∙ sym (same_next fs (mine_after J p) l (apart-mine slots J p (free_hides_none slots J p none_holds)))
 
   size_is : mine.stock.claims.size ≡ q.size
   unfolding own_state
@@ -423,7 +423,7 @@ module _ (slots : List Slot) (J : List Entry) (reaches : List Reach) (seats : Li
   busy_by e lawful clear k d = old.busy d
 
   -- all programs, after the turn
-  pub turn_follows : (seats' : List Seat) (s' : Shared) (ended : Ended) (noted : Noted)
+  pub turn_follows : (seats' : List Seat) (s' : Shared) (ended : Step) (noted : Remark)
       → HasTurned reaches (moment (clock J) heard) i seats s seats' s' ended noted → AreFollowing slots J' reaches seats' s'
   turn_follows seats' s' ended noted turned =
       record {

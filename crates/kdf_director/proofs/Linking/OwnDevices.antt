@@ -26,7 +26,7 @@ use Rattle.kdf_yard.specs.Fields.Parts.{Reach, Seat, has_device, in_pool, number
 use Rattle.kdf_theory.specs.Loading.{owns}
 use Rattle.kdf_places.specs.Shared.{Shared}
 use Rattle.kdf_yard.specs.Fields.Running.{own_state, part_at, reach_at, reaches_in, seat_at}
-use Rattle.kdf_theory.specs.Shown.{IsDeviceAt, Shown, state_of}
+use Rattle.kdf_theory.specs.MachineView.{IsDeviceAt, MachineView, state_of}
 use Rattle.kdf_director.specs.Fields.Viewed.{states_in}
 use Rattle.kdf_theory.specs.Slots.{start_of}
 use Rattle.kdf_yard.specs.declared.slot.Loaded.{Loaded}
@@ -95,7 +95,7 @@ module _ (windows : List Window) (loads : List Loaded) (slots : List Slot) (seat
   abbrev reaches : List Reach
   reaches = reaches_in windows loads
 
-  abbrev m : Shown
+  abbrev m : MachineView
   m = record { slots = slots; states = states_in reaches seats s J; journal = J; room = room }
 
   abbrev own_at : ℕ → State

@@ -13,13 +13,13 @@ use Rattle.kdf_director.specs.Fields.Following.{asked_at}
 use Rattle.kdf_yard.specs.Fields.Parts.{Reach, Seat}
 use Rattle.kdf_places.specs.Shared.{Shared}
 use Rattle.kdf_yard.specs.Fields.Running.{no_seat, own_state, seat_at}
-use Rattle.kdf_theory.specs.Shown.{Shown, state_of}
+use Rattle.kdf_theory.specs.MachineView.{MachineView, state_of}
 use Rattle.kdf_director.specs.Fields.Viewed.{states_in}
 use Rattle.kdf_theory.specs.Slots.{no_slot, start_of}
 use Rattle.kdf_theory.proofs.Lists.{find_at, find_none, state_in_at, state_in_some}
 
 module _ (slots : List Slot) (reaches : List Reach) (seats : List Seat) (s : Shared) (J : List Entry) (room : ℕ) (a : Agrees slots reaches seats s J) where
-  abbrev pub m : Shown
+  abbrev pub m : MachineView
   m = record { slots = slots; states = states_in reaches seats s J; journal = J; room = room }
 
   abbrev pub own_at : ℕ → State

@@ -6,12 +6,12 @@ use Rattle.std.proofs.lemmas.Bool.{cases_Bool, cases_eq}
 use Rattle.std.proofs.lemmas.List.{get_or-set_same, get_or-set_other, take_all, length-drop}
 use Rattle.kdf_journal.specs.declared.entry.Entry.{Entry}
 use Rattle.kdf_journal.specs.Counts.{answers}
-use Rattle.kdf_journal.specs.Steps.{Step, Moves, Ends, added}
+use Rattle.kdf_journal.specs.Steps.{JournalStep, Moves, Ends, added}
 use Rattle.kdf_transfer.specs.declared.order.TransferOrder.{TransferOrder}
 use Rattle.kdf_transfer.specs.AtOnce.{is_input, is_output, has_area, given, offered, stopped, moved_words, finished, area_len, words_out, device_after}
 use Rattle.kdf_transfer.specs.AtOnce.{addressed, order_words, written}
-use Rattle.kdf_transfer.specs.Devices.{Fixture, Progress, new_progress}
-use Rattle.kdf_transfer.specs.InFlight.{Motion, put_words, moves_of, all_words, area_words, words_of, total_of, moved_by, ended_progress}
+use Rattle.kdf_transfer.specs.Devices.{Fixture, DeviceProgress, new_progress}
+use Rattle.kdf_transfer.specs.InFlight.{Motion, put_words, moves_of, all_words, area_words, words_in_flight, total_of, moved_by, ended_progress}
 use Rattle.kdf_transfer.proofs.Addresses.{length-addressed}
 use Rattle.kdf_word.specs.Characters.{codes_of_all}
 use Rattle.kdf_processor.specs.Row.{transferred}
@@ -67,7 +67,7 @@ linked_set q spots d x fs gs lt old others this e =
 -- ---- the words of a transfer are those of its flight
 
 -- what is offered over an area that is placed
-offered_placed : (o : TransferOrder) (base first last : ℕ) (ws us : List ℕ) (x : Fixture) (p : Progress) → (is_input o ≡ false → ws ≡ us)
+offered_placed : (o : TransferOrder) (base first last : ℕ) (ws us : List ℕ) (x : Fixture) (p : DeviceProgress) → (is_input o ≡ false → ws ≡ us)
     → offered o (base + first) (base + last) ws x p ≡ offered o first last us x p
 unfolding offered
 offered_placed o base first last ws us x p same =
@@ -90,7 +90,7 @@ module _ (q : Part) (d : ℕ) (h : Held) (f : Flight) (link : IsLink q d h f) wh
   abbrev ws : List ℕ
   ws = area_words m.order m.first m.last m.lease
 
-  words_are : words_of m ≡ moved_words f.order f.first f.last us m.fixture (device_at f.before d)
+  words_are : words_in_flight m ≡ moved_words f.order f.first f.last us m.fixture (device_at f.before d)
   unfolding all_words
   words_are =
       ap (λ o. moved_words o m.first m.last ws m.fixture m.progress) link.order
@@ -98,11 +98,11 @@ module _ (q : Part) (d : ℕ) (h : Held) (f : Flight) (link : IsLink q d h f) wh
       ∙ ap (stopped f.order) (offered_placed f.order q.base f.first f.last ws us m.fixture m.progress link.words)
       ∙ ap (moved_words f.order f.first f.last us m.fixture) (sym link.progress)
 
-  pub all_are : all_moves d f ≡ addressed f.order f.first f.last (words_of m)
+  pub all_are : all_moves d f ≡ addressed f.order f.first f.last (words_in_flight m)
   all_are = ap (moves_on d f) link.fixture ∙ ap (addressed f.order f.first f.last) (sym words_are)
 
   pub count_is : move_count d f ≡ total_of m
-  count_is = ap length all_are ∙ length-addressed f.order f.first f.last (words_of m)
+  count_is = ap length all_are ∙ length-addressed f.order f.first f.last (words_in_flight m)
 
   pub moves_are : (n : ℕ) → flight_moves q.base n m ≡ take n (unmoved d f)
   moves_are n =
@@ -110,9 +110,9 @@ module _ (q : Part) (d : ℕ) (h : Held) (f : Flight) (link : IsLink q d h f) wh
       let last = link.last in
       let low : m.first - q.base ≡ f.first = omega arith in
       let high : m.last - q.base ≡ f.last = omega arith in
-      ap (λ b. cond b (take n (drop m.moved (addressed m.order (m.first - q.base) (m.last - q.base) (words_of m)))) []) (ap is_input link.order)
-      ∙ ap₂ (λ x y. cond (is_input f.order) (take n (drop m.moved (addressed m.order x y (words_of m)))) []) low high
-      ∙ ap₂ (λ x o. cond (is_input f.order) (take n (drop x (addressed o f.first f.last (words_of m)))) []) link.moved link.order
+      ap (λ b. cond b (take n (drop m.moved (addressed m.order (m.first - q.base) (m.last - q.base) (words_in_flight m)))) []) (ap is_input link.order)
+      ∙ ap₂ (λ x y. cond (is_input f.order) (take n (drop m.moved (addressed m.order x y (words_in_flight m)))) []) low high
+      ∙ ap₂ (λ x o. cond (is_input f.order) (take n (drop x (addressed o f.first f.last (words_in_flight m)))) []) link.moved link.order
       ∙ ap (λ ms. cond (is_input f.order) (take n (drop f.moved ms)) []) (sym all_are)
       ∙ at_input (is_input f.order)
     where
@@ -191,11 +191,11 @@ module _ (slots : List Slot) (J : List Entry) (q : Part) (mine : State) (s : Sha
   fs = flights_of slots J q.p
 
   -- the journal after a step that changes nothing of the program
-  same_seen : (st : Step) → own slots (added J st) q.p ≡ own slots J q.p → flights_of slots (added J st) q.p ≡ fs → mine ≡ seen_of slots (added J st) q.p
+  same_seen : (st : JournalStep) → own slots (added J st) q.p ≡ own slots J q.p → flights_of slots (added J st) q.p ≡ fs → mine ≡ seen_of slots (added J st) q.p
   same_seen st o f = fol.is_seen ∙ sym (ap₂ seen f o)
 
   -- where the transfer isn't the program's, or there is none
-  keep : (st : Step) (s' : Shared) (x : Spot) → own slots (added J st) q.p ≡ own slots J q.p → flights_of slots (added J st) q.p ≡ fs → fs d ≡ None
+  keep : (st : JournalStep) (s' : Shared) (x : Spot) → own slots (added J st) q.p ≡ own slots J q.p → flights_of slots (added J st) q.p ≡ fs → fs d ≡ None
       → s'.spots ≡ set s.spots d x → Linked q d x.flight None → IsFollowing slots (added J st) q mine s'
   keep st s' x o f idle is this =
       record {
@@ -310,7 +310,7 @@ module _ (slots : List Slot) (J : List Entry) (q : Part) (mine : State) (s : Sha
           (cases_eq h.p q.p))
 
 -- a step of no order, that touches no transfer
-pub follow_quiet : (slots : List Slot) (J : List Entry) (st : Step) (q : Part) (mine : State) (s : Shared) → own slots (added J st) q.p ≡ own slots J q.p
+pub follow_quiet : (slots : List Slot) (J : List Entry) (st : JournalStep) (q : Part) (mine : State) (s : Shared) → own slots (added J st) q.p ≡ own slots J q.p
     → flights_of slots (added J st) q.p ≡ flights_of slots J q.p → IsFollowing slots J q mine s → IsFollowing slots (added J st) q mine s
 follow_quiet slots J st q mine s o f fol =
     record {

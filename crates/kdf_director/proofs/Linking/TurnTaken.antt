@@ -9,12 +9,12 @@ use Rattle.std.proofs.lemmas.List.{ext_get_or, get_or-map, get_or-set_same, get_
 use Rattle.kdf_journal.specs.declared.entry.Entry.{Entry}
 use Rattle.kdf_journal.specs.declared.journal.TheConstants.{CALL_LIMIT}
 use Rattle.kdf_journal.specs.Counts.{answers, calls, clock, last_hold}
-use Rattle.kdf_journal.specs.Steps.{Note, Step, Obeys, Holds, Waits, added}
+use Rattle.kdf_journal.specs.Steps.{Note, JournalStep, Obeys, Holds, Waits, added}
 use Rattle.kdf_journal.proofs.Added.{calls-added, hold_by, holder-quiet, last_hold-added, moves-added}
 use Rattle.kdf_processor.specs.declared.step.Need.{Need}
-use Rattle.kdf_processor.specs.declared.step.Step.{Step as Ending}
+use Rattle.kdf_processor.specs.declared.step.Step.{Step}
 use Rattle.kdf_processor.specs.declared.step.Step.TheVariants as ending
-use Rattle.kdf_processor.specs.Effect.{Question, Nothing, Effect, Failing, Ending as Finishing}
+use Rattle.kdf_processor.specs.Effect.{Question, Nothing, Effect, Failing, Ending}
 use Rattle.kdf_processor.specs.Needs.{next_effect}
 use Rattle.kdf_processor.specs.Outcome.{Outcome, held_or}
 use Rattle.kdf_processor.specs.Row.{done_by, next_of}
@@ -23,7 +23,7 @@ use Rattle.kdf_processor.specs.State.{State}
 use Rattle.kdf_theory.specs.Seen.{tried}
 use Rattle.kdf_director.specs.declared.machine.Progress.{Progress}
 use Rattle.kdf_director.specs.declared.machine.Progress.TheVariants as progress
-use Rattle.kdf_yard.specs.declared.note.Note.{Note as Noted}
+use Rattle.kdf_yard.specs.declared.remark.Remark.{Remark}
 use Rattle.kdf_director.specs.Advance.{note_told, AdvanceWith}
 use Rattle.kdf_director.specs.Fields.Agrees.{Agrees}
 use Rattle.kdf_director.specs.Fields.Following.{AreFollowing, IsFollowing, Linked, asked_at}
@@ -34,7 +34,7 @@ use Rattle.kdf_places.specs.Shared.{Shared}
 use Rattle.kdf_yard.specs.Fields.Settled.{holder_left}
 use Rattle.kdf_yard.specs.Fields.Running.{no_seat, answers_at, hold_of, outcome_at, own_state, part_at, seat_at, IsRunning}
 use Rattle.kdf_yard.specs.Fields.Shared.{after_act, moment}
-use Rattle.kdf_theory.specs.Shown.{Shown, state_at, world_of}
+use Rattle.kdf_theory.specs.MachineView.{MachineView, state_at, world_of}
 use Rattle.kdf_director.specs.Fields.Viewed.{states_in}
 use Rattle.kdf_theory.specs.Slots.{slot_of}
 use Rattle.kdf_places.specs.Spots.{spot_at}
@@ -62,24 +62,24 @@ use Rattle.kdf_theory.proofs.Course.OneJournal.{heard_note}
 
 -- ---- an order that was obeyed isn't held
 
-abbrev pub IsNotHeld : Ending → Type 0
+abbrev pub IsNotHeld : Step → Type 0
 IsNotHeld (ending.Held need) = ⊥
 IsNotHeld ended = Unit {0}
 
 done_free : (answer : Question → ℕ) (e : Effect) (s : State) → IsNotHeld (done_by answer e s).step
 done_free answer (Failing kind) s = tt
-done_free answer (Finishing after) s = tt
+done_free answer (Ending after) s = tt
 done_free answer e s = tt
 
-pub step_free : (p k : ℕ) (ended : Ending) (beside : Noted) → IsNotHeld ended → step_told p k ended beside ≡ Obeys p (note_told k ended beside)
+pub step_free : (p k : ℕ) (ended : Step) (beside : Remark) → IsNotHeld ended → step_told p k ended beside ≡ Obeys p (note_told k ended beside)
 step_free p k (ending.Held need) beside free = absurd free
 step_free p k ended beside free = refl
 
-pub progress_free : (p : ℕ) (ended : Ending) → IsNotHeld ended → progress_of p ended ≡ progress.Ran p
+pub progress_free : (p : ℕ) (ended : Step) → IsNotHeld ended → progress_of p ended ≡ progress.Ran p
 progress_free p (ending.Held need) free = absurd free
 progress_free p ended free = refl
 
-pub hold_free : (ended : Ending) → IsNotHeld ended → hold_left ended ≡ None
+pub hold_free : (ended : Step) → IsNotHeld ended → hold_left ended ≡ None
 hold_free (ending.Held need) free = absurd free
 hold_free ended free = refl
 
@@ -88,12 +88,12 @@ hold_free ended free = refl
 abbrev pub holds_in : List Seat → List Entry → List (Option Need)
 holds_in seats J = map (λ (x : Seat). option_map need_of (last_hold x.p J)) seats
 
-abbrev pub shown : List Slot → List Reach → List Seat → Shared → List Entry → ℕ → Shown
+abbrev pub shown : List Slot → List Reach → List Seat → Shared → List Entry → ℕ → MachineView
 shown slots reaches seats s J room =
     record { slots = slots; states = states_in reaches seats s J; journal = J; room = room }
 
 -- it is one still, and the call did what it answers
-pub record HasAdvanced (answers : ℕ → ℕ → Type 0) (old : Shown) (y : Standing) (J : List Entry) (room : ℕ) (answer : Progress) : Type 0 where
+pub record HasAdvanced (answers : ℕ → ℕ → Type 0) (old : MachineView) (y : Standing) (J : List Entry) (room : ℕ) (answer : Progress) : Type 0 where
   pub agrees : Agrees y.slots y.reaches y.seats y.shared J
   pub holds_are : y.holds ≡ holds_in y.seats J
   pub advance : AdvanceWith answers old (shown y.slots y.reaches y.seats y.shared J room) answer
@@ -101,14 +101,14 @@ pub record HasAdvanced (answers : ℕ → ℕ → Type 0) (old : Shown) (y : Sta
 
 module _ (service : ℕ → ℕ → Type 0) (slots : List Slot) (reaches : List Reach) (seats : List Seat) (s : Shared) (J : List Entry) (room : ℕ)
     (a : Agrees slots reaches seats s J) (holds : List (Option Need)) (have : holds ≡ holds_in seats J) (few : calls J < CALL_LIMIT) where
-  abbrev m : Shown
+  abbrev m : MachineView
   m = shown slots reaches seats s J room
 
   abbrev at : List Seat → Shared → List (Option Need) → Standing
   at seats' s' holds' = record { slots = slots; reaches = reaches; seats = seats'; holds = holds'; shared = s' }
 
   -- the states of a step that changes none
-  states_stay : (st : Step) (seats' : List Seat) (s' : Shared) → Agrees slots reaches seats' s' (added J st)
+  states_stay : (st : JournalStep) (seats' : List Seat) (s' : Shared) → Agrees slots reaches seats' s' (added J st)
       → ((p : ℕ) → seen_of slots (added J st) p ≡ seen_of slots J p) → states_in reaches seats' s' (added J st) ≡ states_in reaches seats s J
   states_stay st seats' s' agrees same =
       shows slots reaches seats' s' (added J st) agrees
@@ -116,7 +116,7 @@ module _ (service : ℕ → ℕ → Type 0) (slots : List Slot) (reaches : List 
       ∙ sym (shows slots reaches seats s J a)
 
   -- the holds of a step that names no program
-  pub holds_stay : (st : Step) → ((p : ℕ) → hold_by p (last_hold p J) st ≡ last_hold p J) → holds ≡ holds_in seats (added J st)
+  pub holds_stay : (st : JournalStep) → ((p : ℕ) → hold_by p (last_hold p J) st ≡ last_hold p J) → holds ≡ holds_in seats (added J st)
   holds_stay st quiet =
       have ∙ ap (λ (f : Seat → Option Need). map f seats) (fun_ext (λ (x : Seat). ap (option_map need_of) (sym (last_hold-added x.p J st ∙ quiet x.p))))
 
@@ -185,7 +185,7 @@ module _ (service : ℕ → ℕ → Type 0) (slots : List Slot) (reaches : List 
           ∙ sym (get_or-map (λ (x : Seat). x.p) seats j no_seat 0 (omega arith)))
 
       -- the holds where a step leaves that of the program so, and every other's
-      holds_more : (st : Step) (h : Option Need) → option_map need_of (hold_by p (last_hold p J) st) ≡ h
+      holds_more : (st : JournalStep) (h : Option Need) → option_map need_of (hold_by p (last_hold p J) st) ≡ h
           → ((k : ℕ) → p ≢ k → hold_by k (last_hold k J) st ≡ last_hold k J) → set holds i h ≡ holds_in seats' (added J st)
       holds_more st h its others =
           ext_get_or None _ _
@@ -215,7 +215,7 @@ module _ (service : ℕ → ℕ → Type 0) (slots : List Slot) (reaches : List 
           told_by L x = option_map need_of (last_hold x.p L)
 
       -- in this world its journal is J with a step more
-      by_step : (st : Step) (h : Option Need) (x : Progress) → step_told (seat_at seats' i).p (seat_at seats' i).registers.ran t.ended t.noted ≡ st
+      by_step : (st : JournalStep) (h : Option Need) (x : Progress) → step_told (seat_at seats' i).p (seat_at seats' i).registers.ran t.ended t.noted ≡ st
           → hold_left t.ended ≡ h → progress_of (seat_at seats' i).p t.ended ≡ x → HasAdvanced service m (at seats' s' (set holds i h)) (added J st) room x
           → HasAdvanced service m (at seats' s' holds') K room answer
       by_step st h x e f g advanced =
@@ -276,7 +276,7 @@ module _ (service : ℕ → ℕ → Type 0) (slots : List Slot) (reaches : List 
         abbrev q : Part
         q = part_at reaches seats i
 
-        abbrev st : Step
+        abbrev st : JournalStep
         st = Holds p (world.hold_of need)
 
         outcome_held : (n : ℕ) → outcome_at reaches seats s (moment (clock J) heard) n i ≡ record {

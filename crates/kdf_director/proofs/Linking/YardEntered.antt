@@ -4,7 +4,7 @@ use Rattle.std.proofs.Common.{ℕ, List, subst, ◌≡◌, ◌<◌, length, get_
 use Rattle.kdf_journal.specs.declared.entry.Entry.{Entry}
 use Rattle.kdf_processor.specs.declared.step.Step.{Step}
 use Rattle.kdf_director.specs.declared.machine.Progress.{Progress}
-use Rattle.kdf_yard.specs.declared.note.Note.{Note}
+use Rattle.kdf_yard.specs.declared.remark.Remark.{Remark}
 use Rattle.kdf_yard.specs.Fields.Parts.{Seat, seat_of}
 use Rattle.kdf_yard.specs.Fields.Yards.{hold_in, number_in, registers_in}
 use Rattle.kdf_director.specs.Runs.{HasEntered}
@@ -19,7 +19,7 @@ module _ (m : Inside) (yard : IsYard m.slots.items m.windows m.store m.programs.
   abbrev entered : Standing
   entered = standing m.slots.items m.windows m.store (set m.programs.items i new) m.places.items
 
-  pub entered_in : {E F : Type 0} (J K : List Entry) (n : ℕ) (tried : Result (Step × Note) E) (r : Result (ℕ × Progress) F)
+  pub entered_in : {E F : Type 0} (J K : List Entry) (n : ℕ) (tried : Result (Step × Remark) E) (r : Result (ℕ × Progress) F)
       → HasEntered J program.p n program.registers.ran program.hold tried K new.hold r
       → HasEntered J (number_in y i) n (registers_in y i).ran (hold_in y i) tried K (hold_in entered i) r
   entered_in J K n tried r has =

@@ -17,7 +17,7 @@ use Rattle.kdf_director.specs.Fields.Agrees.{Agrees, IsReady}
 use Rattle.kdf_yard.specs.Fields.Standing.{Standing}
 use Rattle.kdf_theory.specs.Flights.{Flight}
 use Rattle.kdf_director.specs.Fields.Following.{AreFollowing, Linked}
-use Rattle.kdf_theory.specs.Loading.{SlotLoad, slot_of}
+use Rattle.kdf_theory.specs.Loading.{SlotLoad, loaded_slot}
 use Rattle.kdf_yard.specs.Fields.Begun.{IsLoaded}
 use Rattle.kdf_yard.specs.Fields.Filled.{first_seat}
 use Rattle.kdf_yard.specs.Fields.Parts.{Part, Seat}
@@ -55,7 +55,7 @@ linked_none q d (Some h) f no_held no_flight = cc
 
 module _ (xs : List SlotLoad) (y : Standing) (is : IsLoaded xs y) where
   abbrev ys : List Slot
-  ys = map slot_of xs
+  ys = map loaded_slot xs
 
   many : length y.seats ≡ length xs
   many = ap length is.programs_are ∙ length-map xs first_seat
@@ -66,16 +66,16 @@ module _ (xs : List SlotLoad) (y : Standing) (is : IsLoaded xs y) where
   seat_is : (i : ℕ) → i < length xs → (seat_at y.seats i).p ≡ (at i).p
   seat_is i lt = ap (λ ps. (seat_at ps i).p) is.programs_are ∙ ap (λ (x : Seat). x.p) (get_or-map first_seat xs i no_load no_seat lt)
 
-  slot_is : (i : ℕ) → i < length xs → get_or ys i no_slot ≡ slot_of (at i)
-  slot_is i lt = get_or-map slot_of xs i no_load no_slot lt
+  slot_is : (i : ℕ) → i < length xs → get_or ys i no_slot ≡ loaded_slot (at i)
+  slot_is i lt = get_or-map loaded_slot xs i no_load no_slot lt
 
-  start_is : (i : ℕ) → i < length xs → start ys (at i).p ≡ begin (slot_of (at i))
+  start_is : (i : ℕ) → i < length xs → start ys (at i).p ≡ begin (loaded_slot (at i))
   start_is i lt =
       ap (start ys) (ap (λ (y : Slot). y.p) (sym (slot_is i lt)))
-      ∙ ap start_of (found_at ys i no_slot is.can_be_loaded.numbers (let e = length-map xs slot_of in omega arith))
+      ∙ ap start_of (found_at ys i no_slot is.can_be_loaded.numbers (let e = length-map xs loaded_slot in omega arith))
       ∙ ap begin (slot_is i lt)
 
-  own_is : (i : ℕ) → i < length xs → own_state y.reaches y.seats y.shared 0 i ≡ begin (slot_of (at i))
+  own_is : (i : ℕ) → i < length xs → own_state y.reaches y.seats y.shared 0 i ≡ begin (loaded_slot (at i))
   own_is i lt = is.starts i no_load lt
 
   following : AreFollowing ys [] y.reaches y.seats y.shared
@@ -94,13 +94,13 @@ module _ (xs : List SlotLoad) (y : Standing) (is : IsLoaded xs y) where
   numbers =
       ap (map (λ (x : Seat). x.p)) is.programs_are
       ∙ map_twice (λ (x : Seat). x.p) first_seat xs
-      ∙ sym (map_twice (λ (y : Slot). y.p) slot_of xs)
+      ∙ sym (map_twice (λ (y : Slot). y.p) loaded_slot xs)
 
   agrees : Agrees ys y.reaches y.seats y.shared []
   agrees =
       record {
         are = is.can_be_loaded;
-        four = All-map (λ (y : Slot). y.p < 4) slot_of xs (λ i l lt. (is.loads_are.each i l lt).number);
+        four = All-map (λ (y : Slot). y.p < 4) loaded_slot xs (λ i l lt. (is.loads_are.each i l lt).number);
         numbers = numbers;
         running = is.running;
         following = following;
@@ -132,11 +132,11 @@ module _ (xs : List SlotLoad) (y : Standing) (is : IsLoaded xs y) where
   pub states_start : states_in y.reaches y.seats y.shared [] ≡ map begin ys
   states_start =
       ext_get_or (begin no_slot) _ _
-      (length-map-range_with_len own 0 (length y.seats) ∙ many ∙ sym (length-map xs slot_of) ∙ sym (length-map ys begin))
+      (length-map-range_with_len own 0 (length y.seats) ∙ many ∙ sym (length-map xs loaded_slot) ∙ sym (length-map ys begin))
       (λ i lt.
       let li : i < length y.seats = let e = length-map-range_with_len own 0 (length y.seats) in omega arith in
       let lx : i < length xs = let e = many in omega arith in
-      let ly : i < length ys = let e = length-map xs slot_of in omega arith in
+      let ly : i < length ys = let e = length-map xs loaded_slot in omega arith in
       get_or-map-range_with_len own 0 (length y.seats) i i (begin no_slot) li (omega arith)
       ∙ own_is i lx
       ∙ sym (ap begin (slot_is i lx))

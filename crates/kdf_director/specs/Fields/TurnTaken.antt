@@ -2,13 +2,13 @@
 use Rattle.std.specs.Prelude.{◌≡◌, ℕ, List, Option, slice_set, unwrap_or}
 use Rattle.kdf_journal.specs.declared.entry.Entry.{Entry}
 use Rattle.kdf_journal.specs.Counts.{clock}
-use Rattle.kdf_journal.specs.Steps.{Step, Obeys, Holds, added}
+use Rattle.kdf_journal.specs.Steps.{JournalStep, Obeys, Holds, added}
 use Rattle.kdf_processor.specs.declared.step.Need.{Need}
-use Rattle.kdf_processor.specs.declared.step.Step.{Step as Ending}
+use Rattle.kdf_processor.specs.declared.step.Step.{Step}
 use Rattle.kdf_processor.specs.declared.step.Step.TheVariants as ending
 use Rattle.kdf_director.specs.declared.machine.Progress.{Progress}
 use Rattle.kdf_director.specs.declared.machine.Progress.TheVariants as progress
-use Rattle.kdf_yard.specs.declared.note.Note.{Note as Noted}
+use Rattle.kdf_yard.specs.declared.remark.Remark.{Remark}
 use Rattle.kdf_director.specs.Advance.{note_told}
 use Rattle.kdf_yard.specs.Fields.Parts.{Reach, Seat}
 use Rattle.kdf_places.specs.Shared.{Shared}
@@ -19,12 +19,12 @@ use Rattle.kdf_theory.specs.World.{hold_left, hold_of}
 use Rattle.kdf_theory.specs.Asked.{HasAsked}
 
 -- the step of program p that is entered: that it was held, or that it obeyed its own order k, with the note
-abbrev pub step_told : ℕ → ℕ → Ending → Noted → Step
+abbrev pub step_told : ℕ → ℕ → Step → Remark → JournalStep
 step_told p k (ending.Held need) beside = Holds p (hold_of need)
 step_told p k ended beside = Obeys p (note_told k ended beside)
 
 -- what a call answers in which program p had its turn
-abbrev pub progress_of : ℕ → Ending → Progress
+abbrev pub progress_of : ℕ → Step → Progress
 progress_of p (ending.Held need) = progress.Held p need
 progress_of p ended = progress.Ran p
 
@@ -35,8 +35,8 @@ pub record HasTaken (answers : ℕ → ℕ → Type 0) (reaches : List Reach) (i
     (K : List Entry) (answer : Progress) : Type 0 where
   pub heard : Option ℕ
   pub asked : HasAsked answers (word_over (seat_at before i) (reach_at reaches i) s) heard
-  pub ended : Ending
-  pub noted : Noted
+  pub ended : Step
+  pub noted : Remark
   pub turned : HasTurned reaches (moment (clock J) (unwrap_or heard 0)) i before s after left ended noted
   pub left_held : held ≡ slice_set holds i (hold_left ended)
   pub entered : K

@@ -9,7 +9,7 @@ use Rattle.kdf_places.specs.Shared.{Shared}
 use Rattle.kdf_yard.specs.Fields.Running.{own_state}
 use Rattle.std.specs.Prelude.{ℕ}
 use Rattle.kdf_journal.specs.Recorded.{Recorded}
-use Rattle.kdf_theory.specs.Shown.{Shown}
+use Rattle.kdf_theory.specs.MachineView.{MachineView}
 use Rattle.kdf_yard.specs.Fields.Standing.{Standing}
 
 -- each program's own state, after the answers that the journal tells
@@ -18,7 +18,7 @@ states_in reaches seats s J =
     map (λ i. own_state reaches seats s (asked_at seats J i) i) (range_with_len 0 (length seats))
 
 -- what a machine shows where things stand so, and this is recorded
-abbrev pub shown_of : Standing → Recorded → ℕ → Shown
+abbrev pub shown_of : Standing → Recorded → ℕ → MachineView
 shown_of y J room =
     record {
       slots = y.slots;

@@ -5,13 +5,13 @@ ghost use Rattle.std.specs.Prelude.{◌≡◌, ◌≢◌, ℕ, ◌-◌, ◌≤�
 ghost use Rattle.kdf_journal.specs.declared.entry.Entry.{Entry};
 ghost use Rattle.kdf_journal.specs.declared.kind.Kind.{Kind};
 ghost use Rattle.kdf_journal.specs.Counts.{Hold, answers, holder, moved, over, pending, ran, taker};
-ghost use Rattle.kdf_journal.specs.Steps.{Note, Step, Obeys, Holds, Waits, Moves, Ends, Sets, Swaps};
+ghost use Rattle.kdf_journal.specs.Steps.{Note, JournalStep, Obeys, Holds, Waits, Moves, Ends, Sets, Swaps};
 ghost use Rattle.kdf_journal.specs.Steps.{added, journal_of, steps};
 ghost use Rattle.kdf_schedule.specs.declared.event.Event.{Event};
 ghost use Rattle.kdf_schedule.specs.Calls.{Call};
 ghost use Rattle.kdf_transfer.specs.AtOnce.{written};
 ghost use Rattle.kdf_processor.specs.declared.step.Need.TheVariants.{Pool};
-ghost use Rattle.kdf_processor.specs.Claims.{taken};
+ghost use Rattle.kdf_processor.specs.Claims.{taken_device};
 ghost use Rattle.kdf_processor.specs.Effect.{Question, FreeOf};
 ghost use Rattle.kdf_processor.specs.Lone.{is_live};
 ghost use Rattle.kdf_processor.specs.Needs.{next_effect};
@@ -48,17 +48,17 @@ pub fn legal_step()
     ensures empty { (slots : List Slot) → IsLegal slots [] × IsTrue slots [] }
     ensures start { (slots : List Slot) (p : ℕ) → own slots [] p ≡ start slots p }
     ensures idle { (slots : List Slot) (p d : ℕ) → flights_of slots [] p d ≡ None }
-    ensures longer { (slots : List Slot) (J : List Entry) (heard : ℕ) (s : Step) → IsLegal slots J →
+    ensures longer { (slots : List Slot) (J : List Entry) (heard : ℕ) (s : JournalStep) → IsLegal slots J →
         Meets (lone_world slots J) slots J heard s → IsLegal slots (added J s) }
-    ensures truly { (slots : List Slot) (J : List Entry) (heard : ℕ) (s : Step) → IsLegal slots J → IsTrue slots J →
+    ensures truly { (slots : List Slot) (J : List Entry) (heard : ℕ) (s : JournalStep) → IsLegal slots J → IsTrue slots J →
         Meets (lone_world slots J) slots J heard s → IsTrue slots (added J s) }
-    ensures before { (slots : List Slot) (s : Step) (P : List Step) →
+    ensures before { (slots : List Slot) (s : JournalStep) (P : List JournalStep) →
         IsLegal slots (journal_of (s ∷ P)) → IsLegal slots (journal_of P) }
 {}
 
 /// What a program was after an order that the journal counts stays, whatever step follows.
 pub fn earlier_stays()
-    ensures { (slots : List Slot) (J : List Entry) (s : Step) (p k : ℕ) → IsLegal slots J →
+    ensures { (slots : List Slot) (J : List Entry) (s : JournalStep) (p k : ℕ) → IsLegal slots J →
         k ≤ ran p J → own_after slots (added J s) p k ≡ own_after slots J p k }
 {}
 
@@ -94,7 +94,7 @@ pub fn judged_alike()
     ensures note { (slots : List Slot) (J : List Entry) (p : ℕ) (answer : Question → ℕ) →
         first_need (lone_world slots J) p ≡ None
         → note_of (seen_of slots J p) answer ≡ note_of (own slots J p) answer }
-    ensures step { (slots : List Slot) (J : List Entry) (heard : ℕ) (s : Step) →
+    ensures step { (slots : List Slot) (J : List Entry) (heard : ℕ) (s : JournalStep) →
         Meets (seen_world slots J) slots J heard s → Meets (lone_world slots J) slots J heard s }
     ensures call { (slots : List Slot) (J : List Entry) (heard : ℕ) (c : Call) →
         step_at (seen_world slots J) slots J heard c ≡ lone_step_at slots J heard c }
@@ -191,7 +191,7 @@ pub fn holders()
     ensures taken { (slots : List Slot) (J : List Entry) (p heard : ℕ) (kind : Kind) → AreSlots slots →
         IsLegal slots J → IsTrue slots J → not (over p J) ≡ true →
         is_pending_after slots J p (Pool kind) ≡ false
-        → taken (own slots J p).stock.claims kind (truth (lone_world slots J) J p heard (FreeOf kind))
+        → taken_device (own slots J p).stock.claims kind (truth (lone_world slots J) J p heard (FreeOf kind))
         ≡ truth (lone_world slots J) J p heard (FreeOf kind) }
     ensures busy { (slots : List Slot) (J : List Entry) (p d k : ℕ) → AreSlots slots → IsLegal slots J →
         IsTrue slots J → is_pooled (own slots J p).stock.claims d ≡ true → pending d J ≡ Some (p, k)

@@ -2,7 +2,7 @@
 //! service's, and `F.post rule` says which answers it has to a word.
 ghost use Rattle.std.specs.Prelude.{◌≡◌, ℕ, List, [], ◌++◌, length};
 ghost use Rattle.kdf_journal.specs.declared.entry.Entry.{Entry};
-ghost use Rattle.kdf_journal.specs.Steps.{Step, added, journal_of, steps};
+ghost use Rattle.kdf_journal.specs.Steps.{JournalStep, added, journal_of, steps};
 ghost use Rattle.kdf_schedule.specs.declared.event.Event.{Event};
 ghost use Rattle.kdf_schedule.specs.Calls.{Call, calls_made};
 ghost use Rattle.kdf_course.specs.Cut.{cut};
@@ -44,7 +44,7 @@ pub fn resumed<F: Fn(u64) -> u64>()
     ensures { (rule : F) → IsService (F.pre rule) (F.post rule) → (slots : List Slot)
         (events further : List Event) (J K : List Entry) → IsJournalFor (F.post rule) slots events J →
         IsJournalFor (F.post rule) slots (events ++ further) K →
-        (Q : List Step) × (steps K ≡ Q ++ steps J) }
+        (Q : List JournalStep) × (steps K ≡ Q ++ steps J) }
 {}
 
 /// And so is each legal journal that is true for the service and follows a schedule up to somewhere, of the schedule's
@@ -53,7 +53,7 @@ pub fn stopped_run<F: Fn(u64) -> u64>()
     ensures { (rule : F) → IsService (F.pre rule) (F.post rule) → (slots : List Slot)
         (events : List Event) (left : List Call) (J K : List Entry) → IsLegal slots J →
         IsTrueFor (F.post rule) slots J → Follows slots (calls_made events) left J →
-        IsJournalFor (F.post rule) slots events K → (Q : List Step) × (steps K ≡ Q ++ steps J) }
+        IsJournalFor (F.post rule) slots events K → (Q : List JournalStep) × (steps K ≡ Q ++ steps J) }
 {}
 
 /// A journal without entries is true for every service. One that is true for a service stays so with a step that no
@@ -62,7 +62,7 @@ pub fn stopped_run<F: Fn(u64) -> u64>()
 /// every service.
 pub fn true_step<F: Fn(u64) -> u64>()
     ensures empty { (rule : F) (slots : List Slot) → IsTrueFor (F.post rule) slots [] }
-    ensures longer { (rule : F) (slots : List Slot) (J : List Entry) (s : Step) → IsLegal slots J →
+    ensures longer { (rule : F) (slots : List Slot) (J : List Entry) (s : JournalStep) → IsLegal slots J →
         IsTrueFor (F.post rule) slots J → Noted (is_true_for (F.post rule) slots J) s →
         IsTrueFor (F.post rule) slots (added J s) }
     ensures answered { (rule : F) (slots : List Slot) (J K : List Entry) → IsLegal slots J →
@@ -88,8 +88,8 @@ pub fn none_asked<F: Fn(u64) -> u64, G: Fn(u64) -> u64>()
 /// again. At equal moments each step that meets the rules by the one journal meets them by the other, each program has the
 /// same lone state and the same transfers, and the same is seen of it.
 pub fn equal_futures<F: Fn(u64) -> u64>()
-    ensures step { (J K : List Entry) (s : Step) → AreAlike J K → AreAlike (added J s) (added K s) }
-    ensures judged { (slots : List Slot) (J K : List Entry) (heard : ℕ) (s : Step) → AreAlike J K →
+    ensures step { (J K : List Entry) (s : JournalStep) → AreAlike J K → AreAlike (added J s) (added K s) }
+    ensures judged { (slots : List Slot) (J K : List Entry) (heard : ℕ) (s : JournalStep) → AreAlike J K →
         Meets (lone_world slots J) slots J heard s → Meets (lone_world slots K) slots K heard s }
     ensures shown { (slots : List Slot) (J K : List Entry) (p : ℕ) → AreAlike J K →
         (own slots J p ≡ own slots K p) × (flights_of slots J p ≡ flights_of slots K p)
@@ -98,7 +98,7 @@ pub fn equal_futures<F: Fn(u64) -> u64>()
         (events others further : List Event) (J K L : List Entry) → IsJournalFor (F.post rule) slots events J →
         IsJournalFor (F.post rule) slots others K → AreAlike J K →
         IsJournalFor (F.post rule) slots (events ++ further) L →
-        (Q : List Step) × (steps L ≡ Q ++ steps J)
+        (Q : List JournalStep) × (steps L ≡ Q ++ steps J)
         × IsJournalFor (F.post rule) slots (others ++ further) (journal_of (Q ++ steps K))
         × AreAlike L (journal_of (Q ++ steps K)) }
 {}

@@ -1,6 +1,6 @@
 //! Examples of what an order needs after the groups of its syllables, the program having transfers on devices 2
 //! and 5, and devices 0 to 5 being claimed.
-#![tactic(auto, unfolding(crate::specs::Table::transfer_of, crate::specs::Table::query_effect, crate::specs::Table::plain_row, crate::specs::Table::out_effect, crate::specs::Table::guarded, crate::specs::Claims::free_for, kdf_arith::specs::Arith::arith, kdf_arith::specs::Rows::plain_row))]
+#![tactic(auto, unfolding(crate::specs::Table::transfer_of, crate::specs::Table::query_effect, crate::specs::Table::plain_row, crate::specs::Table::out_effect, crate::specs::Table::guarded, crate::specs::Claims::free_for, kdf_arith::specs::Arith::arith_result, kdf_arith::specs::Rows::arith_row))]
 
 ghost use Rattle.std.specs.Prelude.{◌≡◌, [], ◌∷◌};
 ghost use Rattle.kdf_syllable.specs.declared.order.Order.TheVariants as order;

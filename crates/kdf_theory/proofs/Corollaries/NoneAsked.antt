@@ -1,7 +1,7 @@
 -- Where no order asked the service, a journal that is true for one service is true for each.
 use Rattle.std.proofs.Common.{◌≡◌, ℕ, List, [], ◌∷◌, None}
 use Rattle.kdf_journal.specs.declared.entry.Entry.{Entry}
-use Rattle.kdf_journal.specs.Steps.{Note, Answered, Took, Step, Obeys, journal_of, steps}
+use Rattle.kdf_journal.specs.Steps.{Note, Answered, Took, JournalStep, Obeys, journal_of, steps}
 use Rattle.kdf_transfer.specs.Slots.{Slot}
 use Rattle.kdf_processor.specs.Ahead.{word_asked}
 use Rattle.kdf_processor.specs.Effect.{IsBusy, IsOut, Time, FreeOf, OfService, Effect, Asking}
@@ -30,12 +30,13 @@ module _ (answers more : ℕ → ℕ → Type 0) (slots : List Slot) where
   by_note J p (Took d) none is = by_effect J p (next_effect (own slots J p)) d none is
   by_note J p note none is = tt
 
-  by_step : (J : List Entry) (s : Step) → course.Noted (asks_none slots J) s → course.Noted (is_true_for answers slots J) s
+  by_step : (J : List Entry) (s : JournalStep) → course.Noted (asks_none slots J) s → course.Noted (is_true_for answers slots J) s
       → course.Noted (is_true_for more slots J) s
   by_step J (Obeys p note) none is = by_note J p note none is
   by_step J s none is = tt
 
-  each : (P : List Step) → course.EachNoted (asks_none slots) P → course.EachNoted (is_true_for answers slots) P → course.EachNoted (is_true_for more slots) P
+  each : (P : List JournalStep) → course.EachNoted (asks_none slots) P → course.EachNoted (is_true_for answers slots) P
+      → course.EachNoted (is_true_for more slots) P
   each [] none truly = tt
   each (s ∷ P) none truly = (each P none.0 truly.0, by_step (journal_of P) s none.1 truly.1)
 
@@ -44,11 +45,11 @@ module _ (answers more : ℕ → ℕ → Type 0) (slots : List Slot) where
 
 -- and none of an unserved program does
 module _ (slots : List Slot) (unserved : NoneServed slots) where
-  step_unserved : (J : List Entry) (s : Step) → course.Noted (asks_none slots J) s
+  step_unserved : (J : List Entry) (s : JournalStep) → course.Noted (asks_none slots J) s
   step_unserved J (Obeys p note) = none_asked (own slots J p) (own_unserved slots unserved J p)
   step_unserved J s = tt
 
-  each_unserved : (P : List Step) → course.EachNoted (asks_none slots) P
+  each_unserved : (P : List JournalStep) → course.EachNoted (asks_none slots) P
   each_unserved [] = tt
   each_unserved (s ∷ P) = (each_unserved P, step_unserved (journal_of P) s)
 

@@ -6,16 +6,16 @@ use Rattle.std.proofs.lemmas.Bool.{and_parts, cases_Bool, cases_eq, eq-eqb, fals
 use Rattle.std.proofs.lemmas.List.{get_or-replicate, get_or-set_other, get_or-set_same, length-append}
 use Rattle.std.proofs.lemmas.List.Elements.{filter-append}
 use Rattle.kdf_journal.specs.declared.kind.Kind.{Kind}
-use Rattle.kdf_transfer.specs.Devices.{Fixture, Progress, is_kind}
+use Rattle.kdf_transfer.specs.Devices.{Fixture, DeviceProgress, is_kind}
 use Rattle.kdf_transfer.specs.declared.order.TransferOrder.{TransferOrder}
 use Rattle.kdf_transfer.specs.Slots.{Slot}
 use Rattle.kdf_processor.specs.declared.registers.Registers.{Registers}
-use Rattle.kdf_processor.specs.Claims.{is_claimed, taken}
+use Rattle.kdf_processor.specs.Claims.{is_claimed, taken_device}
 use Rattle.kdf_processor.specs.Effect.{Question, FreeOf, Effect, Starting, Asking, Claiming, Returning}
 use Rattle.kdf_processor.specs.Lone.{is_live, lone, lone_step}
 use Rattle.kdf_processor.specs.Needs.{next_effect}
 use Rattle.kdf_processor.specs.Row.{handed, perform, row, transferred}
-use Rattle.kdf_processor.specs.State.{Claims, Lending, State, Stint, Stock, begin, device_in, device_limit, fixture_at, is_pooled, lending_of, lendings}
+use Rattle.kdf_processor.specs.State.{Claims, Lending, State, StintState, Stock, begin, device_in, device_limit, fixture_at, is_pooled, lending_of, lendings}
 use Rattle.kdf_processor.specs.State.{own_fixture_at, pool_kind_at, unclaimed, word_at}
 use Rattle.kdf_processor.proofs.Fit.{IsFit, next_fit}
 use Rattle.kdf_processor.proofs.Lending.{mark_claimed}
@@ -27,10 +27,10 @@ use Rattle.kdf_theory.proofs.Course.DevicesHeld.{IsFixed, fixed_at, same_lone}
 
 -- ---- the stints of a device that aren't given back
 
-abbrev is_open : ℕ → Stint → Bool
+abbrev is_open : ℕ → StintState → Bool
 is_open d x = eqb x.device d && not (is_some x.left)
 
-abbrev opened : ℕ → List Stint → ℕ
+abbrev opened : ℕ → List StintState → ℕ
 opened d xs = length (filter (is_open d) xs)
 
 abbrev one_if : Bool → ℕ
@@ -40,11 +40,11 @@ more : {A : Type 0} (b : Bool) (x : A) (xs : List A) → length (cond b (x ∷ x
 more true x xs = omega arith
 more false x xs = omega arith
 
-opened_head : (d : ℕ) (x : Stint) (xs : List Stint) → opened d (x ∷ xs) ≡ one_if (is_open d x) + opened d xs
+opened_head : (d : ℕ) (x : StintState) (xs : List StintState) → opened d (x ∷ xs) ≡ one_if (is_open d x) + opened d xs
 opened_head d x xs = more (is_open d x) x (filter (is_open d) xs)
 
 -- those that are seen are as many
-seen_open : (k : Stock) (d : ℕ) (xs : List Stint) → length (filter (λ (x : Lending). eqb x.device d && not x.given) (map (lending_of k) xs)) ≡ opened d xs
+seen_open : (k : Stock) (d : ℕ) (xs : List StintState) → length (filter (λ (x : Lending). eqb x.device d && not x.given) (map (lending_of k) xs)) ≡ opened d xs
 seen_open k d [] = refl
 seen_open k d (x ∷ xs) =
     more (is_open d x) (lending_of k x) (filter (λ (y : Lending). eqb y.device d && not y.given) (map (lending_of k) xs))
@@ -59,14 +59,14 @@ open_new e d = of (eqb e d)
     of false = refl
 
 -- a stint more
-opened_more : (d e : ℕ) (xs : List Stint) → opened d (xs ++ record { device = e; left = None } ∷ []) ≡ opened d xs + one_if (eqb e d)
+opened_more : (d e : ℕ) (xs : List StintState) → opened d (xs ++ record { device = e; left = None } ∷ []) ≡ opened d xs + one_if (eqb e d)
 opened_more d e xs =
     ap length (filter-append (is_open d) xs (record { device = e; left = None } ∷ []))
     ∙ length-append (filter (is_open d) xs) (filter (is_open d) (record { device = e; left = None } ∷ []))
     ∙ ap (λ n. opened d xs + n) (opened_head d (record { device = e; left = None }) [] ∙ omega (arith, ap one_if (open_new e d)))
 
 -- one that is over
-shut : (d e : ℕ) (p : Progress) → is_open d (record { device = e; left = Some p }) ≡ false
+shut : (d e : ℕ) (p : DeviceProgress) → is_open d (record { device = e; left = Some p }) ≡ false
 shut d e p = of (eqb e d)
   where
     of : (b : Bool) → (b && false) ≡ false
@@ -74,12 +74,13 @@ shut d e p = of (eqb e d)
     of false = refl
 
 -- one after its device was given back
-open_after : (x d : ℕ) (p : Progress) (e : ℕ) (l : Option Progress) → is_open d (handed x p (record { device = e; left = l })) ≡ cond (eqb x d) false
+open_after : (x d : ℕ) (p : DeviceProgress) (e : ℕ) (l : Option DeviceProgress)
+    → is_open d (handed x p (record { device = e; left = l })) ≡ cond (eqb x d) false
     (is_open d (record { device = e; left = l }))
 open_after x d p e (Some q) = of (eqb e x) ∙ sym (both (eqb x d))
   where
-    of : (b : Bool) → is_open d (cond (b && false) (let y : Stint = record { device = e; left = Some p } in y)
-        (let y : Stint = record { device = e; left = Some q } in y)) ≡ false
+    of : (b : Bool) → is_open d (cond (b && false) (let y : StintState = record { device = e; left = Some p } in y)
+        (let y : StintState = record { device = e; left = Some q } in y)) ≡ false
     of true = shut d e q
     of false = shut d e q
 
@@ -88,10 +89,10 @@ open_after x d p e (Some q) = of (eqb e x) ∙ sym (both (eqb x d))
     both false = shut d e q
 open_after x d p e None =
     ⊎_elim
-    (λ (same : e ≡ x). ap (λ b. is_open d (cond (b && true) (let y : Stint = record { device = e; left = Some p } in y)
-    (let y : Stint = record { device = e; left = None } in y))) (eq-eqb e x same) ∙ shut d e p ∙ sym (gone same))
-    (λ (ne : e ≢ x). ap (λ b. is_open d (cond (b && true) (let y : Stint = record { device = e; left = Some p } in y)
-    (let y : Stint = record { device = e; left = None } in y))) (ne_eqb e x ne) ∙ sym (stays ne))
+    (λ (same : e ≡ x). ap (λ b. is_open d (cond (b && true) (let y : StintState = record { device = e; left = Some p } in y)
+    (let y : StintState = record { device = e; left = None } in y))) (eq-eqb e x same) ∙ shut d e p ∙ sym (gone same))
+    (λ (ne : e ≢ x). ap (λ b. is_open d (cond (b && true) (let y : StintState = record { device = e; left = Some p } in y)
+    (let y : StintState = record { device = e; left = None } in y))) (ne_eqb e x ne) ∙ sym (stays ne))
     (cases_eq e x)
   where
     gone : e ≡ x → cond (eqb x d) false (is_open d (record { device = e; left = None })) ≡ false
@@ -109,7 +110,7 @@ open_after x d p e None =
         (λ (other : x ≢ d). ap (λ b. cond b false (is_open d (record { device = e; left = None }))) (ne_eqb x d other))
         (cases_eq x d)
 
-opened_after : (x d : ℕ) (p : Progress) (xs : List Stint) → opened d (map (handed x p) xs) ≡ cond (eqb x d) 0 (opened d xs)
+opened_after : (x d : ℕ) (p : DeviceProgress) (xs : List StintState) → opened d (map (handed x p) xs) ≡ cond (eqb x d) 0 (opened d xs)
 opened_after x d p [] = of (eqb x d)
   where
     of : (b : Bool) → opened d [] ≡ cond b 0 (opened d [])
@@ -160,7 +161,7 @@ module _ (s : State) (fixed : IsFixed s.stock.claims) (counted : IsCounted s) wh
       omega (arith, none, stays))
       (cases_eq x d)
 
-  given_counted : (x d : ℕ) (p : Progress) → is_pooled c x ≡ true → is_pooled c d ≡ true
+  given_counted : (x d : ℕ) (p : DeviceProgress) → is_pooled c x ≡ true → is_pooled c d ≡ true
       → opened d (map (handed x p) k.stints) ≡ one_if (get_or (set c.claimed x false) d false)
   given_counted x d p there pooled =
       opened_after x d p k.stints
@@ -183,7 +184,7 @@ module _ (s : State) (fixed : IsFixed s.stock.claims) (counted : IsCounted s) wh
   by_effect answer (Claiming x after) fit =
       λ d pooled. aside x d true pooled (λ same. false≢true (ap is_some (sym (fixed.apart d pooled)) ∙ ap (λ e. is_some (own_fixture_at c e)) same ∙ fit))
   by_effect answer (Asking (FreeOf kind) after) fit =
-      let x : ℕ = taken c kind (answer (FreeOf kind)) in
+      let x : ℕ = taken_device c kind (answer (FreeOf kind)) in
       let can = and_parts (is_kind kind (pool_kind_at c x)) (not (is_claimed c x)) (taken_can c kind (answer (FreeOf kind)) fit) in
       let is : pool_kind_at c x ≡ Some kind = exact kind (pool_kind_at c x) can.0 in
       let there : is_pooled c x ≡ true = ap is_some is in

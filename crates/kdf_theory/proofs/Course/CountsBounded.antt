@@ -5,7 +5,7 @@ use Rattle.std.proofs.lemmas.List.Sums.{sum_by-append, sum_by-cons}
 use Rattle.kdf_transfer.specs.Slots.{Slot}
 use Rattle.kdf_journal.specs.declared.entry.Entry.{Entry}
 use Rattle.kdf_journal.specs.Counts.{calls, clock}
-use Rattle.kdf_journal.specs.Steps.{Step, Obeys, Holds, Waits, Moves, Ends, Sets, Swaps, journal_of, steps}
+use Rattle.kdf_journal.specs.Steps.{JournalStep, Obeys, Holds, Waits, Moves, Ends, Sets, Swaps, journal_of, steps}
 use Rattle.kdf_journal.proofs.Added.{calls_by, calls-added, clock_by, clock-added}
 use Rattle.kdf_schedule.specs.declared.event.Event.{Event}
 use Rattle.kdf_schedule.specs.declared.event.Event.TheVariants.{Orders, Move, End, Clock, Swap}
@@ -22,7 +22,7 @@ abbrev orders_of : Call → ℕ
 orders_of AnOrder = 1
 orders_of c = 0
 
-calls-by : (s : Step) → calls_by s ≡ orders_of (call_of s)
+calls-by : (s : JournalStep) → calls_by s ≡ orders_of (call_of s)
 calls-by (Obeys p note) = refl
 calls-by (Holds p by) = refl
 calls-by Waits = refl
@@ -31,7 +31,7 @@ calls-by (Ends d) = refl
 calls-by (Sets t) = refl
 calls-by (Swaps p q) = refl
 
-calls-answered : (P : List Step) → calls (journal_of P) ≡ sum_by orders_of (answered P)
+calls-answered : (P : List JournalStep) → calls (journal_of P) ≡ sum_by orders_of (answered P)
 calls-answered [] = refl
 calls-answered (s ∷ P) =
     let more = calls-added (journal_of P) s in
@@ -86,7 +86,7 @@ rest-rises t (AnEnd d ∷ cs) ds rise = rest-rises t cs ds rise
 rest-rises t (AClock u ∷ cs) ds rise = earlier t u ds rise.0 (rest-rises u cs ds rise.1)
 rest-rises t (ASwap p q ∷ cs) ds rise = rest-rises t cs ds rise.2
 
-rise-step : (t : ℕ) (s : Step) (cs : List Call) → CallsRise t (call_of s ∷ cs) → CallsRise (clock_by t s) cs
+rise-step : (t : ℕ) (s : JournalStep) (cs : List Call) → CallsRise t (call_of s ∷ cs) → CallsRise (clock_by t s) cs
 rise-step t (Obeys p note) cs rise = rise
 rise-step t (Holds p by) cs rise = rise
 rise-step t Waits cs rise = rise
@@ -95,7 +95,7 @@ rise-step t (Ends d) cs rise = rise
 rise-step t (Sets u) cs rise = rise.1
 rise-step t (Swaps p q) cs rise = rise.2
 
-rise-answered : (P : List Step) (cs : List Call) → CallsRise 0 (answered P ++ cs) → CallsRise (clock (journal_of P)) cs
+rise-answered : (P : List JournalStep) (cs : List Call) → CallsRise 0 (answered P ++ cs) → CallsRise (clock (journal_of P)) cs
 rise-answered [] cs rise = rise
 rise-answered (s ∷ P) cs rise =
     let front : CallsRise 0 (answered P ++ (call_of s ∷ cs)) = subst (CallsRise 0) (append_assoc (answered P) (call_of s ∷ []) cs) rise in

@@ -9,12 +9,12 @@ use Rattle.std.proofs.lemmas.List.{get_or-replicate, get_or-set_other, get_or-se
 use Rattle.kdf_journal.specs.declared.entry.Entry.{Entry}
 use Rattle.kdf_journal.specs.declared.kind.Kind.{Kind}
 use Rattle.kdf_journal.specs.Counts.{answers, holder, over, ran, taker, unless_over}
-use Rattle.kdf_journal.specs.Steps.{Note, Step, Obeys, Holds, Waits, Moves, Ends, Sets, Swaps, added, journal_of, steps}
+use Rattle.kdf_journal.specs.Steps.{Note, JournalStep, Obeys, Holds, Waits, Moves, Ends, Sets, Swaps, added, journal_of, steps}
 use Rattle.kdf_journal.proofs.Added.{answer_in_note, answers_by, ends_by, over-added, ran_by, taker_by, taker-added}
 use Rattle.kdf_transfer.specs.Devices.{Fixture, is_kind}
 use Rattle.kdf_processor.specs.declared.step.Need.TheVariants.{Pool}
 use Rattle.kdf_processor.proofs.Frees.{none_of_kind}
-use Rattle.kdf_processor.specs.Claims.{can_take, is_claimed, kind_at, least_pooled, taken}
+use Rattle.kdf_processor.specs.Claims.{can_take, is_claimed, kind_at, least_pooled, taken_device}
 use Rattle.kdf_processor.specs.Effect.{Question, FreeOf, Effect, Failing, Ending, Starting, Asking, Claiming, Returning}
 use Rattle.kdf_processor.specs.Frame.{HidesNone}
 use Rattle.kdf_processor.specs.Lone.{is_live, lone, lone_step}
@@ -36,7 +36,7 @@ use Rattle.kdf_theory.specs.World.{first_need}
 use Rattle.kdf_theory.proofs.Seen.WholeTransfers.{transferred_claims}
 use Rattle.kdf_theory.proofs.Course.WorldsJudged.{free_need, meets_truly}
 use Rattle.kdf_theory.proofs.Course.LegalFacts.{IsKept, ends_not, kept_of}
-use Rattle.kdf_theory.proofs.Course.FlightsOnCourse.{effect-free, free}
+use Rattle.kdf_theory.proofs.Course.FlightsOnCourse.{effect-free, free_hides_none}
 use Rattle.kdf_theory.proofs.Course.OwnSteps.{own-nil, own-obeys, own-same}
 use Rattle.kdf_theory.proofs.Course.SlotsAtStart.{IfSlot, found_slot}
 use Rattle.kdf_theory.proofs.Course.Worlds.{next_on}
@@ -54,7 +54,7 @@ same_claims answer (Starting d o first last after) s =
     record { fixtures = ap (λ (c : Claims). c.fixtures) same; pool = ap (λ (c : Claims). c.pool) same; marks = ap (λ (c : Claims). length c.claimed) same }
 same_claims answer (Claiming d after) s = record { fixtures = refl; pool = refl; marks = length-set s.stock.claims.claimed d true }
 same_claims answer (Asking (FreeOf kind) after) s =
-    record { fixtures = refl; pool = refl; marks = length-set s.stock.claims.claimed (taken s.stock.claims kind (answer (FreeOf kind))) true }
+    record { fixtures = refl; pool = refl; marks = length-set s.stock.claims.claimed (taken_device s.stock.claims kind (answer (FreeOf kind))) true }
 same_claims answer (Returning true d after) s = record { fixtures = refl; pool = refl; marks = length-set s.stock.claims.claimed d false }
 same_claims answer (Returning false d after) s = record { fixtures = refl; pool = refl; marks = length-set s.stock.claims.claimed d false }
 same_claims answer e s = record { fixtures = refl; pool = refl; marks = refl }
@@ -186,7 +186,7 @@ module _ (slots : List Slot) (J : List Entry) (p : ℕ) (are : AreSlots slots) (
 
 -- ---- a step
 
-held-stays : (slots : List Slot) (J : List Entry) (s : Step) (q : ℕ) → ran_by q s ≡ 0 → answers_by q s ≡ [] → ends_by q s ≡ false
+held-stays : (slots : List Slot) (J : List Entry) (s : JournalStep) (q : ℕ) → ran_by q s ≡ 0 → answers_by q s ≡ [] → ends_by q s ≡ false
     → ((d : ℕ) → is_pooled (own slots J q).stock.claims d ≡ true → not (over q J) ≡ true → is_taker q (taker_by d (taker d J) s) ≡ is_taker q (taker d J))
     → IsHeld slots J q → IsHeld slots (added J s) q
 held-stays slots J s q none silent on same held d pooled live =
@@ -209,15 +209,15 @@ module _ (slots : List Slot) (J : List Entry) (p : ℕ) (are : AreSlots slots) (
   -- what is answered where a device is taken
   told : (kind : Kind) → HidesNone (is_pending_after slots J p) (Pool kind ∷ []) → (a : ℕ) × (answer (FreeOf kind) ≡ a)
       × (can_take t.stock.claims kind a ≡ true) × (holder a J ≡ None)
-  told kind free =
-      let x = answered_can slots J p are (held p) on kind (free_after slots J p kind) refl (or_parts _ _ free).0 in
+  told kind free_hides_none =
+      let x = answered_can slots J p are (held p) on kind (free_after slots J p kind) refl (or_parts _ _ free_hides_none).0 in
       (x.0, ap (λ (o : Option ℕ). unwrap_or o 0) x.1, x.2, x.3)
 
   others : (q : ℕ) → p ≢ q → (e : Effect) → IsFit t.stock.claims e → IsBegun t.stock.claims e
       → HidesNone (is_pending_after slots J p) (effect_needs (mine_after J p) e) → (d : ℕ) → not (over q J) ≡ true
       → is_taker q (taker_by d (taker d J) (Obeys p (noted e))) ≡ is_taker q (taker d J)
-  others q ne (Asking (FreeOf kind) after) fit begun free d live =
-      let x = told kind free in
+  others q ne (Asking (FreeOf kind) after) fit begun free_hides_none d live =
+      let x = told kind free_hides_none in
       ⊎_elim
       (λ (same : answer (FreeOf kind) ≡ d).
       ap (λ b. is_taker q (cond b (Some p) (taker d J))) (eq-eqb (answer (FreeOf kind)) d same)
@@ -225,7 +225,7 @@ module _ (slots : List Slot) (J : List Entry) (p : ℕ) (are : AreSlots slots) (
       ∙ sym (not_taker q J (taker d J) (ap (λ e. holder e J) (sym same ∙ x.1) ∙ x.3) live))
       (λ (other : answer (FreeOf kind) ≢ d). ap (λ b. is_taker q (cond b (Some p) (taker d J))) (ne_eqb (answer (FreeOf kind)) d other))
       (cases_eq (answer (FreeOf kind)) d)
-  others q ne (Returning true x after) fit begun free d live =
+  others q ne (Returning true x after) fit begun free_hides_none d live =
       ⊎_elim
       (λ (same : x ≡ d).
       let its : is_taker p (taker d J) ≡ true = subst (λ e. is_taker p (taker e J) ≡ true) same (sym (held p x (sym fit) on)
@@ -233,26 +233,26 @@ module _ (slots : List Slot) (J : List Entry) (p : ℕ) (are : AreSlots slots) (
       ap (λ b. is_taker q (cond b None (taker d J))) (eq-eqb x d same) ∙ sym (one_taker p q (taker d J) ne its))
       (λ (other : x ≢ d). ap (λ b. is_taker q (cond b None (taker d J))) (ne_eqb x d other))
       (cases_eq x d)
-  others q ne (Returning false x after) fit begun free d live = refl
-  others q ne (Failing kind) fit begun free d live = refl
-  others q ne (Ending after) fit begun free d live = refl
-  others q ne (Asking question after) fit begun free d live = refl
-  others q ne e fit begun free d live = refl
+  others q ne (Returning false x after) fit begun free_hides_none d live = refl
+  others q ne (Failing kind) fit begun free_hides_none d live = refl
+  others q ne (Ending after) fit begun free_hides_none d live = refl
+  others q ne (Asking question after) fit begun free_hides_none d live = refl
+  others q ne e fit begun free_hides_none d live = refl
 
   mine : (e : Effect) → IsFit t.stock.claims e → IsBegun t.stock.claims e → HidesNone (is_pending_after slots J p) (effect_needs (mine_after J p) e)
       → not (ends_by p (Obeys p (noted e)) || over p J) ≡ true → (d : ℕ) → is_pooled t.stock.claims d ≡ true
       → has_mark (perform answer e t) d ≡ is_taker p (taker_by d (taker d J) (Obeys p (noted e)))
-  mine (Failing kind) fit begun free live d pooled = cc (sym (ap (λ b. not (b || over p J)) (eq-eqb p p refl)) ∙ live)
-  mine (Ending after) fit begun free live d pooled = cc (sym (ap (λ b. not (b || over p J)) (eq-eqb p p refl)) ∙ live)
-  mine (Claiming x after) fit begun free live d pooled =
+  mine (Failing kind) fit begun free_hides_none live d pooled = cc (sym (ap (λ b. not (b || over p J)) (eq-eqb p p refl)) ∙ live)
+  mine (Ending after) fit begun free_hides_none live d pooled = cc (sym (ap (λ b. not (b || over p J)) (eq-eqb p p refl)) ∙ live)
+  mine (Claiming x after) fit begun free_hides_none live d pooled =
       let other : d ≢ x = λ same. false≢true (ap is_some (sym ((fixed slots J p are).apart d pooled))
       ∙ ap (λ e. is_some (own_fixture_at t.stock.claims e)) same ∙ fit) in
       get_or-set_other t.stock.claims.claimed x d true false other ∙ held p d pooled on
-  mine (Asking (FreeOf kind) after) fit begun free live d pooled =
-      let x = told kind free in
+  mine (Asking (FreeOf kind) after) fit begun free_hides_none live d pooled =
+      let x = told kind free_hides_none in
       let a : ℕ = answer (FreeOf kind) in
       let can : can_take t.stock.claims kind a ≡ true = ap (can_take t.stock.claims kind) x.1 ∙ x.2 in
-      let is : taken t.stock.claims kind a ≡ a = ap (λ b. cond b a (unwrap_or (least_pooled t.stock.claims kind) 0)) can in
+      let is : taken_device t.stock.claims kind a ≡ a = ap (λ b. cond b a (unwrap_or (least_pooled t.stock.claims kind) 0)) can in
       ap (λ e. get_or (set t.stock.claims.claimed e true) d false) is
       ∙ ⊎_elim
       (λ (same : a ≡ d).
@@ -264,7 +264,7 @@ module _ (slots : List Slot) (J : List Entry) (p : ℕ) (are : AreSlots slots) (
       ∙ held p d pooled on
       ∙ sym (ap (λ b. is_taker p (cond b (Some p) (taker d J))) (ne_eqb a d other)))
       (cases_eq a d)
-  mine (Returning true x after) fit begun free live d pooled =
+  mine (Returning true x after) fit begun free_hides_none live d pooled =
       ⊎_elim
       (λ (same : x ≡ d).
       ap (λ e. get_or (set t.stock.claims.claimed e false) d false) same
@@ -275,13 +275,13 @@ module _ (slots : List Slot) (J : List Entry) (p : ℕ) (are : AreSlots slots) (
       ∙ held p d pooled on
       ∙ sym (ap (λ b. is_taker p (cond b None (taker d J))) (ne_eqb x d other)))
       (cases_eq x d)
-  mine (Returning false x after) fit begun free live d pooled =
+  mine (Returning false x after) fit begun free_hides_none live d pooled =
       let other : d ≢ x = λ same. false≢true (fit ∙ ap (is_pooled t.stock.claims) (sym same) ∙ pooled) in
       get_or-set_other t.stock.claims.claimed x d false false other ∙ held p d pooled on
-  mine (Starting x o first last after) fit begun free live d pooled =
+  mine (Starting x o first last after) fit begun free_hides_none live d pooled =
       ap (λ (c : Claims). get_or c.claimed d false) (transferred_claims x o first last (fixture_at t.stock.claims x) t.stock) ∙ held p d pooled on
-  mine (Asking question after) fit begun free live d pooled = held p d pooled on
-  mine e fit begun free live d pooled = held p d pooled on
+  mine (Asking question after) fit begun free_hides_none live d pooled = held p d pooled on
+  mine e fit begun free_hides_none live d pooled = held p d pooled on
 
   fit : IsFit t.stock.claims (next_effect t)
   fit = next_fit t.stock.claims (word_at t) t.registers
@@ -312,12 +312,13 @@ module _ (slots : List Slot) (J : List Entry) (p : ℕ) (are : AreSlots slots) (
           ∙ mine (next_effect t) fit begun none (sym (ap not (over-added p J (Obeys p (noted (next_effect t))))) ∙ live) d there
           ∙ sym (ap (is_taker p) (taker-added d J (Obeys p (noted (next_effect t)))))
 
-held-added : (slots : List Slot) (J : List Entry) (heard : ℕ) (s : Step) → AreSlots slots → Meets (lone_world slots J) slots J heard s
+held-added : (slots : List Slot) (J : List Entry) (heard : ℕ) (s : JournalStep) → AreSlots slots → Meets (lone_world slots J) slots J heard s
     → ((q : ℕ) → IsKept slots J q) → ((q : ℕ) → IsHeld slots J q) → (q : ℕ) → IsHeld slots (added J s) q
 held-added slots J heard (Obeys p note) are m kept held q =
     rw m.2
     (turn_held slots J p are (kept p) held (next_on (lone_world slots J) slots J p m.0)
-    (effect-free (is_pending_after slots J p) (mine_after J p) (own slots J p) (free slots J p (free_need (first_need (lone_world slots J) p) m.1))) heard q)
+    (effect-free (is_pending_after slots J p) (mine_after J p) (own slots J p) (free_hides_none slots J p (free_need (first_need (lone_world slots J) p) m.1)))
+    heard q)
 held-added slots J heard (Holds p by) are m kept held q = held-stays slots J (Holds p by) q refl refl refl (λ d pooled live. refl) (held q)
 held-added slots J heard Waits are m kept held q = held-stays slots J Waits q refl refl refl (λ d pooled live. refl) (held q)
 held-added slots J heard (Moves d n) are m kept held q = held-stays slots J (Moves d n) q refl refl refl (λ d pooled live. refl) (held q)
@@ -341,7 +342,7 @@ held-first slots q d pooled live = ap (λ (t : State). has_mark t d) (own-nil sl
     no_mark None d = none_marked d
     no_mark (Some s) d = none_marked d
 
-held_of : (slots : List Slot) → AreSlots slots → (P : List Step) → EachMeets slots P → course.EachNoted (is_true slots) P → (q : ℕ)
+held_of : (slots : List Slot) → AreSlots slots → (P : List JournalStep) → EachMeets slots P → course.EachNoted (is_true slots) P → (q : ℕ)
     → IsHeld slots (journal_of P) q
 held_of slots are [] m truly q = held-first slots q
 held_of slots are (s ∷ P) m truly q =
@@ -355,9 +356,9 @@ legal_held slots J are l truly q = rw l.in_form at (held_of slots are (steps J) 
 -- and where it takes one, it takes the one that it is truly answered
 pub legal_taken : (slots : List Slot) (J : List Entry) → AreSlots slots → IsLegal slots J → IsTrue slots J → (p heard : ℕ) (kind : Kind)
     → not (over p J) ≡ true → is_pending_after slots J p (Pool kind) ≡ false
-    → taken (own slots J p).stock.claims kind (truth (lone_world slots J) J p heard (FreeOf kind)) ≡ truth (lone_world slots J) J p heard (FreeOf kind)
-legal_taken slots J are l truly p heard kind live free =
-    let x = answered_can slots J p are (legal_held slots J are l truly p) live kind (free_after slots J p kind) refl free in
+    → taken_device (own slots J p).stock.claims kind (truth (lone_world slots J) J p heard (FreeOf kind)) ≡ truth (lone_world slots J) J p heard (FreeOf kind)
+legal_taken slots J are l truly p heard kind live free_hides_none =
+    let x = answered_can slots J p are (legal_held slots J are l truly p) live kind (free_after slots J p kind) refl free_hides_none in
     let a : ℕ = truth (lone_world slots J) J p heard (FreeOf kind) in
     let is : a ≡ x.0 = ap (λ (o : Option ℕ). unwrap_or o 0) x.1 in
     ap (λ b. cond b a (unwrap_or (least_pooled (own slots J p).stock.claims kind) 0)) (ap (can_take (own slots J p).stock.claims kind) is ∙ x.2)

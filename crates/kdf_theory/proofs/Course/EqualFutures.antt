@@ -8,7 +8,7 @@ use Rattle.std.proofs.lemmas.Bool.{true≢false}
 use Rattle.kdf_journal.specs.declared.entry.Entry.{Entry}
 use Rattle.kdf_journal.specs.declared.kind.Kind.{Kind}
 use Rattle.kdf_journal.specs.Counts.{Hold, answers, clock, holder, last_hold, moved_if, over, pending, priorities, ran, slot_numbers, taker, unless_over}
-use Rattle.kdf_journal.specs.Steps.{Note, Answered, Took, Gave, Step, Obeys, Holds, Waits, Moves, Ends, Sets, Swaps, added, journal_of, steps}
+use Rattle.kdf_journal.specs.Steps.{Note, Answered, Took, Gave, JournalStep, Obeys, Holds, Waits, Moves, Ends, Sets, Swaps, added, journal_of, steps}
 use Rattle.kdf_journal.proofs.Added.{ends_by, over-added, taker-added, taker_by}
 use Rattle.kdf_journal.proofs.Steps.{steps-journal_of}
 use Rattle.kdf_schedule.specs.declared.event.Event.{Event}
@@ -43,21 +43,21 @@ use Rattle.kdf_theory.proofs.Course.OneJournal.{resumed_for}
 -- ---- the holders of the pool's devices with a step more
 
 -- the holder of a device after a step that neither takes it nor gives it back
-abbrev holder_by : Step → Option ℕ → Option ℕ
+abbrev holder_by : JournalStep → Option ℕ → Option ℕ
 holder_by s None = None
 holder_by s (Some p) = cond (ends_by p s) None (Some p)
 
-by_over : (s : Step) (p : ℕ) (a b : Bool) → ends_by p s ≡ a → cond (a || b) None (Some p) ≡ holder_by s (cond b None (Some p))
+by_over : (s : JournalStep) (p : ℕ) (a b : Bool) → ends_by p s ≡ a → cond (a || b) None (Some p) ≡ holder_by s (cond b None (Some p))
 by_over s p true true e = refl
 by_over s p true false e = sym (ap (λ (x : Bool). cond x None (Some p)) e)
 by_over s p false true e = refl
 by_over s p false false e = sym (ap (λ (x : Bool). cond x None (Some p)) e)
 
-unless_added : (J : List Entry) (s : Step) (o : Option ℕ) → unless_over (added J s) o ≡ holder_by s (unless_over J o)
+unless_added : (J : List Entry) (s : JournalStep) (o : Option ℕ) → unless_over (added J s) o ≡ holder_by s (unless_over J o)
 unless_added J s None = refl
 unless_added J s (Some p) = ap (λ (b : Bool). cond b None (Some p)) (over-added p J s) ∙ by_over s p (ends_by p s) (over p J) refl
 
-module _ (J K : List Entry) (s : Step) (ended : (p : ℕ) → over p J ≡ over p K) where
+module _ (J K : List Entry) (s : JournalStep) (ended : (p : ℕ) → over p J ≡ over p K) where
   pub ended_added : (p : ℕ) → over p (added J s) ≡ over p (added K s)
   ended_added p = over-added p J s ∙ ap (λ (b : Bool). ends_by p s || b) (ended p) ∙ sym (over-added p K s)
 
@@ -73,13 +73,13 @@ module _ (J K : List Entry) (s : Step) (ended : (p : ℕ) → over p J ≡ over 
   changed true new o u same = new_one new
   changed false new o u same = stays o u same
 
-by_step : (J K : List Entry) (s : Step) → ((p : ℕ) → over p J ≡ over p K) → (d : ℕ) (o u : Option ℕ) → unless_over J o ≡ unless_over K u
+by_step : (J K : List Entry) (s : JournalStep) → ((p : ℕ) → over p J ≡ over p K) → (d : ℕ) (o u : Option ℕ) → unless_over J o ≡ unless_over K u
     → unless_over (added J s) (taker_by d o s) ≡ unless_over (added K s) (taker_by d u s)
 by_step J K (Obeys p (Took e)) ended d o u same = changed J K (Obeys p (Took e)) ended (eqb e d) (Some p) o u same
 by_step J K (Obeys p (Gave e)) ended d o u same = changed J K (Obeys p (Gave e)) ended (eqb e d) None o u same
 by_step J K s ended d o u same = stays J K s ended o u same
 
-pub lent_added : (J K : List Entry) (s : Step) → ((p : ℕ) → over p J ≡ over p K) → (d : ℕ) → holder d J ≡ holder d K
+pub lent_added : (J K : List Entry) (s : JournalStep) → ((p : ℕ) → over p J ≡ over p K) → (d : ℕ) → holder d J ≡ holder d K
     → holder d (added J s) ≡ holder d (added K s)
 lent_added J K s ended d same =
     ap (unless_over (added J s)) (taker-added d J s)
@@ -146,7 +146,7 @@ pub live_alike : (there : ℕ → Bool) (J K : List Entry) → ((p : ℕ) → ov
 unfolding any.any_live any.lives
 live_alike there J K ended = ap (λ (f : ℕ → Bool). list_any f slot_numbers) (fun_ext (λ p. ap (λ (b : Bool). there p && not b) (ended p)))
 
-next_alike : (w : any.World) (J K : List Entry) → ((p : ℕ) → over p J ≡ over p K) → ((p : ℕ) → last_hold p J ≡ last_hold p K) → priorities J ≡ priorities K
+next_alike : (w : any.Dispatch) (J K : List Entry) → ((p : ℕ) → over p J ≡ over p K) → ((p : ℕ) → last_hold p J ≡ last_hold p K) → priorities J ≡ priorities K
     → any.next w J ≡ any.next w K
 unfolding any.next any.can_go any.lives
 next_alike w J K ended hold order =
@@ -163,7 +163,7 @@ module _ (slots : List Slot) (J K : List Entry) (is : IsJudged slots J K) where
   held_is p = ap (λ (w : World). (dispatched slots w).held p) is.world
 
   -- a step that meets the rules after the one does so after the other
-  pub meets_alike : (a b : ℕ → Note → Type 0) → ((p : ℕ) (n : Note) → a p n → b p n) → (s : Step) → course.Meets (lone_dispatched slots J) a J s
+  pub meets_alike : (a b : ℕ → Note → Type 0) → ((p : ℕ) (n : Note) → a p n → b p n) → (s : JournalStep) → course.Meets (lone_dispatched slots J) a J s
       → course.Meets (lone_dispatched slots K) b K s
   meets_alike a b within (Obeys p n) m = (sym next_is ∙ m.0, sym (held_is p) ∙ m.1, within p n m.2)
   meets_alike a b within (Holds p by) m = (sym next_is ∙ m.0, sym (held_is p) ∙ m.1)
@@ -176,13 +176,13 @@ module _ (slots : List Slot) (J K : List Entry) (is : IsJudged slots J K) where
   any_alike : (p : ℕ) (n : Note) → any_answer slots J p n → any_answer slots K p n
   any_alike p n m = (m.0, m.1 ∙ ap (λ (s : State). note_of s (λ _. m.0)) (own_is p))
 
-  pub truly_alike : (heard : ℕ) (s : Step) → Meets (lone_world slots J) slots J heard s → Meets (lone_world slots K) slots K heard s
+  pub truly_alike : (heard : ℕ) (s : JournalStep) → Meets (lone_world slots J) slots J heard s → Meets (lone_world slots K) slots K heard s
   truly_alike heard s m =
       meets_alike _ _
       (λ p n e. e ∙ ap₂ (λ (w : World) (t : ℕ). note_of (w.state p) (known (w.pending p) t (w.free p) heard)) is.world is.time)
       s m
 
-  pub legally_alike : (s : Step) → course.Meets (lone_dispatched slots J) (any_answer slots J) J s
+  pub legally_alike : (s : JournalStep) → course.Meets (lone_dispatched slots J) (any_answer slots J) J s
       → course.Meets (lone_dispatched slots K) (any_answer slots K) K s
   legally_alike s m = meets_alike (any_answer slots J) (any_answer slots K) any_alike s m
 
@@ -208,49 +208,51 @@ module _ (slots : List Slot) (J K : List Entry) (is : IsJudged slots J K) where
     note_alike (Took d) m = told_alike d m
     note_alike n m = tt
 
-  pub noted_alike : (service : ℕ → ℕ → Type 0) (s : Step) → course.Noted (is_true_for service slots J) s → course.Noted (is_true_for service slots K) s
+  pub noted_alike : (service : ℕ → ℕ → Type 0) (s : JournalStep) → course.Noted (is_true_for service slots J) s → course.Noted (is_true_for service slots K) s
   noted_alike service (Obeys p n) m = note_alike service p n m
   noted_alike service s m = tt
 
 -- ---- the same steps more
 
-live_before : (W : List Entry → any.World) (s : Step) (Q P : List Step) → EachLive W ((s ∷ Q) ++ P) → any.any_live (W (journal_of P)).there (journal_of P)
+live_before : (W : List Entry → any.Dispatch) (s : JournalStep) (Q P : List JournalStep) → EachLive W ((s ∷ Q) ++ P)
+    → any.any_live (W (journal_of P)).there (journal_of P)
     ≡ true
 live_before W s [] P l = l.1
 live_before W s (t ∷ Q) P l = live_before W t Q P l.0
 
 -- a relation that each step keeps, and by which journals are judged alike
-module _ (slots : List Slot) (Alike : List Entry → List Entry → Type 0) (keeps : (J K : List Entry) (s : Step) → Alike J K → Alike (added J s) (added K s))
+module _ (slots : List Slot) (Alike : List Entry → List Entry → Type 0)
+    (keeps : (J K : List Entry) (s : JournalStep) → Alike J K → Alike (added J s) (added K s))
     (judged : (J K : List Entry) → Alike J K → IsJudged slots J K) where
-  abbrev W : List Entry → any.World
+  abbrev W : List Entry → any.Dispatch
   W = lone_dispatched slots
 
-  pub alike_on : (Q P R : List Step) → Alike (journal_of P) (journal_of R) → Alike (journal_of (Q ++ P)) (journal_of (Q ++ R))
+  pub alike_on : (Q P R : List JournalStep) → Alike (journal_of P) (journal_of R) → Alike (journal_of (Q ++ P)) (journal_of (Q ++ R))
   alike_on [] P R a = a
   alike_on (s ∷ Q) P R a = keeps (journal_of (Q ++ P)) (journal_of (Q ++ R)) s (alike_on Q P R a)
 
-  module _ (P R : List Step) (a : Alike (journal_of P) (journal_of R)) where
-    judged_on : (Q : List Step) → IsJudged slots (journal_of (Q ++ P)) (journal_of (Q ++ R))
+  module _ (P R : List JournalStep) (a : Alike (journal_of P) (journal_of R)) where
+    judged_on : (Q : List JournalStep) → IsJudged slots (journal_of (Q ++ P)) (journal_of (Q ++ R))
     judged_on Q = judged (journal_of (Q ++ P)) (journal_of (Q ++ R)) (alike_on Q P R a)
 
-    meets_on : (Q : List Step) → EachMeets slots (Q ++ P) → EachMeets slots R → EachMeets slots (Q ++ R)
+    meets_on : (Q : List JournalStep) → EachMeets slots (Q ++ P) → EachMeets slots R → EachMeets slots (Q ++ R)
     meets_on [] m r = r
     meets_on (s ∷ Q) m r = (meets_on Q m.0 r, legally_alike slots (journal_of (Q ++ P)) (journal_of (Q ++ R)) (judged_on Q) s m.1)
 
-    noted_on : (service : ℕ → ℕ → Type 0) (Q : List Step) → course.EachNoted (is_true_for service slots) (Q ++ P)
+    noted_on : (service : ℕ → ℕ → Type 0) (Q : List JournalStep) → course.EachNoted (is_true_for service slots) (Q ++ P)
         → course.EachNoted (is_true_for service slots) R → course.EachNoted (is_true_for service slots) (Q ++ R)
     noted_on service [] m r = r
     noted_on service (s ∷ Q) m r = (noted_on service Q m.0 r, noted_alike slots (journal_of (Q ++ P)) (journal_of (Q ++ R)) (judged_on Q) service s m.1)
 
-    live_on : (Q : List Step) → any.any_live (there_in slots) (journal_of (Q ++ P)) ≡ any.any_live (there_in slots) (journal_of (Q ++ R))
+    live_on : (Q : List JournalStep) → any.any_live (there_in slots) (journal_of (Q ++ P)) ≡ any.any_live (there_in slots) (journal_of (Q ++ R))
     live_on Q = live_alike (there_in slots) (journal_of (Q ++ P)) (journal_of (Q ++ R)) (judged_on Q).ended
 
-    lived_on : (Q : List Step) → EachLive W (Q ++ P) → EachLive W R → EachLive W (Q ++ R)
+    lived_on : (Q : List JournalStep) → EachLive W (Q ++ P) → EachLive W R → EachLive W (Q ++ R)
     lived_on [] l r = r
     lived_on (s ∷ Q) l r = (lived_on Q l.0 r, sym (live_on Q) ∙ l.1)
 
     -- the calls that take the one further take the other as far
-    reaches_on : (Q : List Step) (cs left : List Call) → answered Q ++ left ≡ cs → EachLive W (Q ++ P)
+    reaches_on : (Q : List JournalStep) (cs left : List Call) → answered Q ++ left ≡ cs → EachLive W (Q ++ P)
         → (left ≡ []) ⊎ (any.any_live (there_in slots) (journal_of (Q ++ P)) ≡ false) → Reaches W R cs (Q ++ R)
     reaches_on Q cs left order lived end = record {
       more = Q;
@@ -267,7 +269,7 @@ module _ (slots : List Slot) (Alike : List Entry → List Entry → Type 0) (kee
         ends (inr dead) = inr (sym (live_on Q) ∙ dead)
 
     -- where the rest of the calls before it is known
-    by_rest : (Q : List Step) (cs rest left : List Call) → (rest ≡ []) ⊎ (any.any_live (there_in slots) (journal_of P) ≡ false)
+    by_rest : (Q : List JournalStep) (cs rest left : List Call) → (rest ≡ []) ⊎ (any.any_live (there_in slots) (journal_of P) ≡ false)
         → answered Q ++ left ≡ rest ++ cs → EachLive W (Q ++ P) → (left ≡ []) ⊎ (any.any_live (there_in slots) (journal_of (Q ++ P)) ≡ false)
         → Reaches W R cs (Q ++ R)
     by_rest Q cs rest left (inl none) order lived end = reaches_on Q cs left (order ∙ ap (λ (xs : List Call). xs ++ cs) none) lived end
@@ -277,10 +279,10 @@ module _ (slots : List Slot) (Alike : List Entry → List Entry → Type 0) (kee
   module _ (service : ℕ → ℕ → Type 0) (one : (n a b : ℕ) → n < 2 ^ 48 → service n a → service n b → a ≡ b) (events others further : List Event)
       (J K L : List Entry) (j : IsJournalFor service slots events J) (k : IsJournalFor service slots others K)
       (l : IsJournalFor service slots (events ++ further) L) (a : Alike J K) where
-    longer : (Q : List Step) × (steps L ≡ Q ++ steps J)
+    longer : (Q : List JournalStep) × (steps L ≡ Q ++ steps J)
     longer = resumed_for service slots one events further J L j l
 
-    abbrev Q : List Step
+    abbrev Q : List JournalStep
     Q = longer.0
 
     abbrev M : List Entry
@@ -313,7 +315,7 @@ module _ (slots : List Slot) (Alike : List Entry → List Entry → Type 0) (kee
         (subst (EachLive W) longer.1 l.whole.follows.lived)
         (subst (λ (X : List Entry). (l.whole.left ≡ []) ⊎ (any.any_live (there_in slots) X ≡ false)) (sym is_l) l.whole.at_end)
 
-    pub future : (S : List Step) × (steps L ≡ S ++ steps J) × IsJournalFor service slots (others ++ further) (journal_of (S ++ steps K))
+    pub future : (S : List JournalStep) × (steps L ≡ S ++ steps J) × IsJournalFor service slots (others ++ further) (journal_of (S ++ steps K))
         × Alike L (journal_of (S ++ steps K))
     future = (
       Q,

@@ -5,7 +5,7 @@ use Rattle.std.proofs.lemmas.List.{take_all, take-append-drop, replicate-append-
 use Rattle.std.specs.Prelude.{replicate}
 use Rattle.kdf_transfer.specs.Slots.{Slot}
 use Rattle.kdf_journal.specs.declared.entry.Entry.{Entry}
-use Rattle.kdf_journal.specs.Steps.{Step, journal_of, steps}
+use Rattle.kdf_journal.specs.Steps.{JournalStep, journal_of, steps}
 use Rattle.kdf_journal.proofs.Steps.{steps-nil}
 use Rattle.kdf_schedule.specs.declared.event.Event.{Event}
 use Rattle.kdf_schedule.specs.declared.event.Event.TheVariants.{Orders, Move, End, Clock, Swap}
@@ -21,7 +21,7 @@ use Rattle.kdf_theory.proofs.Course.WorldsJudged.{legal_nil}
 use Rattle.kdf_theory.specs.Served.{IsJournalFor, IsTrueFor}
 
 -- before the first of further events
-pub no_calls : (slots : List Slot) (P : List Step) (es : List Event) → Reaches (lone_dispatched slots) P (calls_made (take 0 es)) P
+pub no_calls : (slots : List Slot) (P : List JournalStep) (es : List Event) → Reaches (lone_dispatched slots) P (calls_made (take 0 es)) P
 no_calls slots P es = rw calls_made-nil (reach-nil (lone_dispatched slots) P)
 
 -- a journal that goes on after its schedule's first events
@@ -48,7 +48,7 @@ no-events answers slots es J fresh =
           (rw (calls_made-nil, steps-nil) (reach-nil (lone_dispatched slots) []));
     })
 
-module _ (slots0 : List Slot) (P : List Step) (es : List Event) (i : ℕ) where
+module _ (slots0 : List Slot) (P : List JournalStep) (es : List Event) (i : ℕ) where
   module _ (slots : List Slot) (J : List Entry) (l : IsLegal slots J) (same : slots ≡ slots0)
       (taken : Reaches (lone_dispatched slots0) P (calls_made (take i es)) (steps J)) where
     live_here : (b : Bool) → any_live slots J ≡ b → any_live slots0 (journal_of (steps J)) ≡ b
@@ -106,7 +106,7 @@ rises-rest t (Clock u) es rises = rises.1
 rises-rest t (Swap p q) es rises = rises.2
 
 -- the orders are over before their end, where no program is live
-pub rested : (slots slots0 : List Slot) (J : List Entry) (P : List Step) (i n : ℕ) → IsLegal slots J → slots ≡ slots0
+pub rested : (slots slots0 : List Slot) (J : List Entry) (P : List JournalStep) (i n : ℕ) → IsLegal slots J → slots ≡ slots0
     → Reaches (lone_dispatched slots0) P (replicate i AnOrder) (steps J) → any_live slots J ≡ false → i ≤ n
     → Reaches (lone_dispatched slots0) P (replicate n AnOrder) (steps J)
 rested slots slots0 J P i n l same taken dead le =

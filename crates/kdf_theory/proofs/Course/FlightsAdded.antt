@@ -18,7 +18,7 @@ use Rattle.kdf_processor.proofs.LoneLemmas.{longer}
 use Rattle.kdf_journal.specs.declared.entry.Entry.{Entry}
 use Rattle.kdf_journal.specs.declared.entry.Entry.TheVariants.{Start, Move, End}
 use Rattle.kdf_journal.specs.Counts.{ran, answers, pending_after, pending, moved_after, moved_if, moved}
-use Rattle.kdf_journal.specs.Steps.{Note, Step, Obeys, Moves, Ends, added}
+use Rattle.kdf_journal.specs.Steps.{Note, JournalStep, Obeys, Moves, Ends, added}
 use Rattle.kdf_journal.proofs.Added.{answers_by, answers-added, pending_by, pending-added, moved_by, moved_if-added}
 use Rattle.kdf_theory.specs.Flights.{Flight, beginning, flights_after, move_count, moved_to, with_flight}
 use Rattle.kdf_theory.specs.Legal.{note_of_outcome}
@@ -67,7 +67,7 @@ IsPast p n None = Unit {0}
 IsPast p n (Some begun) = eqb begun.0 p ≡ true → begun.1 ≤ n
 
 -- what a program was after an earlier order stays
-pub earlier : (slots : List Slot) (J : List Entry) (s : Step) (p k : ℕ) → (own slots J p).stock.asked ≡ length (answers p J) → k ≤ ran p J
+pub earlier : (slots : List Slot) (J : List Entry) (s : JournalStep) (p k : ℕ) → (own slots J p).stock.asked ≡ length (answers p J) → k ≤ ran p J
     → own_after slots (added J s) p k ≡ own_after slots J p k
 unfolding own
 earlier slots J s p k asked le =
@@ -89,7 +89,7 @@ flight-same slots J K p d (Some begun) past kept words =
 -- ---- a step that doesn't run program p, or begins no transfer
 module _ (slots : List Slot) (J : List Entry) (p : ℕ) (asked : (own slots J p).stock.asked ≡ length (answers p J))
     (past : (d : ℕ) → IsPast p (ran p J) (pending d J)) where
-  pub flight-stays : (s : Step) (d : ℕ) → pending_by d (pending d J) s ≡ pending d J → moved_by d (moved_if d J) s ≡ moved_if d J
+  pub flight-stays : (s : JournalStep) (d : ℕ) → pending_by d (pending d J) s ≡ pending d J → moved_by d (moved_if d J) s ≡ moved_if d J
       → flights_of slots (added J s) p d ≡ flights_of slots J p d
   unfolding flights_of
   flight-stays s d same words =

@@ -16,8 +16,8 @@ use Rattle.kdf_processor.specs.Row.{done_by, perform, row}
 use Rattle.kdf_transfer.specs.Slots.{Slot}
 use Rattle.kdf_processor.specs.State.{State, word_at}
 use Rattle.kdf_journal.specs.declared.entry.Entry.{Entry}
-use Rattle.kdf_journal.specs.Counts.{ran, answers, pending as pending_in, moved_if}
-use Rattle.kdf_journal.specs.Steps.{Step, Obeys, Holds, Waits, Moves, Ends, Sets, Swaps, added, journal_of, steps}
+use Rattle.kdf_journal.specs.Counts.{ran, answers, pending, moved_if}
+use Rattle.kdf_journal.specs.Steps.{JournalStep, Obeys, Holds, Waits, Moves, Ends, Sets, Swaps, added, journal_of, steps}
 use Rattle.kdf_transfer.specs.ByNumber.{device_count}
 use Rattle.kdf_journal.proofs.Added.{ran_by, ran-added, answer_in_note, answers_by, pending_by, pending-added, moved_by}
 use Rattle.kdf_theory.specs.Flights.{Flight, beginning, flights_after, mine_of, move_count, with_flight}
@@ -25,7 +25,7 @@ use Rattle.kdf_theory.specs.Flying.{AreFlying}
 use Rattle.kdf_course.specs.Legal as rules
 use Rattle.kdf_theory.specs.Legal.{any_answer, note_of, note_of_outcome, EachMeets, IsLegal}
 use Rattle.kdf_theory.specs.Next.{lone_dispatched}
-use Rattle.kdf_theory.specs.Seen.{begun_row, pending, seen}
+use Rattle.kdf_theory.specs.Seen.{begun_row, pending_in_flight, seen}
 use Rattle.kdf_theory.specs.Slots.{AreSlots}
 use Rattle.kdf_theory.specs.ByJournal.{own, flights_of, flight_from, flight_of, further, is_of, is_pending_after, lone_world, mine_after, seen_of}
 use Rattle.kdf_theory.specs.World.{first_need}
@@ -48,12 +48,13 @@ flight-pending : (slots : List Slot) (J : List Entry) (p d : ℕ) (o : Option (�
 flight-pending slots J p d None is = is
 flight-pending slots J p d (Some begun) is = refl
 
-device-pending : (slots : List Slot) (J : List Entry) (p d : ℕ) → is_some (flights_of slots J p d) ≡ true → is_some (pending_in d J) ≡ true
+device-pending : (slots : List Slot) (J : List Entry) (p d : ℕ) → is_some (flights_of slots J p d) ≡ true → is_some (pending d J) ≡ true
 unfolding flights_of
-device-pending slots J p d is = flight-pending slots J p d (pending_in d J) is
+device-pending slots J p d is = flight-pending slots J p d (pending d J) is
 
 -- what a program's own transfers make pending is pending
-pub pending-more : (slots : List Slot) (J : List Entry) (p : ℕ) (n : Need) → pending (flights_of slots J p) n ≡ true → is_pending_after slots J p n ≡ true
+pub pending-more : (slots : List Slot) (J : List Entry) (p : ℕ) (n : Need) → pending_in_flight (flights_of slots J p) n ≡ true
+    → is_pending_after slots J p n ≡ true
 pending-more slots J p (Group g) is = is
 pending-more slots J p (Device d) is = device-pending slots J p d is
 pending-more slots J p (Pool kind) is = cc
@@ -75,15 +76,15 @@ none_found f (n ∷ ns) e =
     ap₂ (λ (a b : Bool). a || b) parts.0 (none_found f ns parts.1)
 
 -- a program that nothing holds up has no need that is pending
-pub free : (slots : List Slot) (J : List Entry) (p : ℕ) → first_need (lone_world slots J) p ≡ None
+pub free_hides_none : (slots : List Slot) (J : List Entry) (p : ℕ) → first_need (lone_world slots J) p ≡ None
     → HidesNone (is_pending_after slots J p) (needs (own slots J p) (mine_after J p))
 unfolding first_need
-free slots J p none = none_found (is_pending_after slots J p) (needs (own slots J p) (mine_after J p)) none
+free_hides_none slots J p none = none_found (is_pending_after slots J p) (needs (own slots J p) (mine_after J p)) none
 
 -- and none that its own transfers make pending
 pub apart-mine : (slots : List Slot) (J : List Entry) (p : ℕ) → HidesNone (is_pending_after slots J p) (needs (own slots J p) (mine_after J p))
-    → HidesNone (pending (flights_of slots J p)) (needs (own slots J p) (mine_after J p))
-apart-mine slots J p none = hides_less (pending (flights_of slots J p)) (is_pending_after slots J p) (pending-more slots J p)
+    → HidesNone (pending_in_flight (flights_of slots J p)) (needs (own slots J p) (mine_after J p))
+apart-mine slots J p none = hides_less (pending_in_flight (flights_of slots J p)) (is_pending_after slots J p) (pending-more slots J p)
     (needs (own slots J p) (mine_after J p)) none
 
 pub effect-free : (hidden : Need → Bool) (mine : List ℕ) (s : State) → HidesNone hidden (needs s mine) → HidesNone hidden (effect_needs mine (next_effect s))
@@ -94,14 +95,14 @@ effect-free hidden mine s none =
 
 -- the transfers of program p in flight are those that the journal tells
 pub record IsOnCourse (slots : List Slot) (J : List Entry) (p : ℕ) : Type 0 where
-  pub past : (d : ℕ) → IsPast p (ran p J) (pending_in d J)
-  pub mine : (d : ℕ) → is_some (flights_of slots J p d) ≡ is_of p (pending_in d J)
+  pub past : (d : ℕ) → IsPast p (ran p J) (pending d J)
+  pub mine : (d : ℕ) → is_some (flights_of slots J p d) ≡ is_of p (pending d J)
   pub flying : AreFlying (flights_of slots J p) (own slots J p)
   -- a program that isn't live has none
   pub over : is_live (own slots J p).registers.state ≡ false → (d : ℕ) → flights_of slots J p d ≡ None
 
 -- so they are on the devices that the journal tells
-pub mine-same : (slots : List Slot) (J : List Entry) (p : ℕ) → ((d : ℕ) → is_some (flights_of slots J p d) ≡ is_of p (pending_in d J))
+pub mine-same : (slots : List Slot) (J : List Entry) (p : ℕ) → ((d : ℕ) → is_some (flights_of slots J p d) ≡ is_of p (pending d J))
     → mine_after J p ≡ mine_of (flights_of slots J p)
 unfolding mine_after
 mine-same slots J p mine = ap (λ (test : ℕ → Bool). filter test (range_with_len 0 device_count)) (fun_ext (λ d. sym (mine d)))
@@ -147,10 +148,10 @@ over_after flights answer e s live over = absurd (false≢true (sym over ∙ liv
 module _ (slots : List Slot) (J : List Entry) (p : ℕ) (answer : Question → ℕ) (asked : (own slots J p).stock.asked ≡ length (answers p J))
     (live : is_live (own slots J p).registers.state ≡ true) (course : IsOnCourse slots J p)
     (none : HidesNone (is_pending_after slots J p) (needs (own slots J p) (mine_after J p))) where
-  abbrev obeying : Step
+  abbrev obeying : JournalStep
   obeying = Obeys p (note_of (own slots J p) answer)
 
-  apart : HidesNone (pending (flights_of slots J p)) (needs (own slots J p) (mine_after J p))
+  apart : HidesNone (pending_in_flight (flights_of slots J p)) (needs (own slots J p) (mine_after J p))
   apart = apart-mine slots J p none
 
   pub flights-then : flights_of slots (added J obeying) p ≡ flights_after (flights_of slots J p) (own slots J p) (next_effect (own slots J p))
@@ -163,29 +164,30 @@ module _ (slots : List Slot) (J : List Entry) (p : ℕ) (answer : Question → �
   pub seen-then : seen_of slots (added J obeying) p ≡ begun_row (seen_of slots J p) answer
   seen-then = ap₂ seen flights-then own-then ∙ sym (begun_seen (flights_of slots J p) (mine_after J p) (own slots J p) apart answer)
 
-  pending-then : (d : ℕ) → pending_in d (added J obeying) ≡ pending_behind p ((own slots J p).registers.ran + 1) d (pending_in d J)
+  pending-then : (d : ℕ) → pending d (added J obeying) ≡ pending_behind p ((own slots J p).registers.ran + 1) d (pending d J)
       (next_effect (own slots J p))
-  pending-then d = pending-added d J obeying ∙ pending-obeys p d (pending_in d J) answer (next_effect (own slots J p)) (own slots J p)
+  pending-then d = pending-added d J obeying ∙ pending-obeys p d (pending d J) answer (next_effect (own slots J p)) (own slots J p)
 
   ran-then : ran p (added J obeying) ≡ ran p J + 1
   ran-then = ran-added p J obeying ∙ ap (λ (b : Bool). ran p J + cond b 1 0) (eq-eqb p p refl)
 
-  past-then : (d : ℕ) → IsPast p (ran p (added J obeying)) (pending_in d (added J obeying))
+  past-then : (d : ℕ) → IsPast p (ran p (added J obeying)) (pending d (added J obeying))
   past-then d =
       subst (IsPast p (ran p (added J obeying))) (sym (pending-then d))
-      (past_behind p ((own slots J p).registers.ran + 1) d (ran p (added J obeying)) (pending_in d J) (next_effect (own slots J p))
+      (past_behind p ((own slots J p).registers.ran + 1) d (ran p (added J obeying)) (pending d J) (next_effect (own slots J p))
       (omega (arith, ran-then, own-ran slots J p live))
-      (past_on p (ran p J) (ran p (added J obeying)) (pending_in d J) (omega (arith, ran-then)) (course.past d)))
+      (past_on p (ran p J) (ran p (added J obeying)) (pending d J) (omega (arith, ran-then)) (course.past d)))
 
-  mine-then : (d : ℕ) → is_some (flights_of slots (added J obeying) p d) ≡ is_of p (pending_in d (added J obeying))
+  mine-then : (d : ℕ) → is_some (flights_of slots (added J obeying) p d) ≡ is_of p (pending d (added J obeying))
   mine-then d =
       ap (λ (fs : ℕ → Option Flight). is_some (fs d)) flights-then
-      ∙ mine_behind p ((own slots J p).registers.ran + 1) d (flights_of slots J p) (own slots J p) (pending_in d J) (next_effect (own slots J p))
+      ∙ mine_behind p ((own slots J p).registers.ran + 1) d (flights_of slots J p) (own slots J p) (pending d J) (next_effect (own slots J p))
       (course.mine d)
       ∙ sym (ap (is_of p) (pending-then d))
 
-  none-mine : HidesNone (pending (flights_of slots J p)) (needs (own slots J p) (mine_of (flights_of slots J p)))
-  none-mine = subst (λ (mine : List ℕ). HidesNone (pending (flights_of slots J p)) (needs (own slots J p) mine)) (mine-same slots J p course.mine) apart
+  none-mine : HidesNone (pending_in_flight (flights_of slots J p)) (needs (own slots J p) (mine_of (flights_of slots J p)))
+  none-mine =
+      subst (λ (mine : List ℕ). HidesNone (pending_in_flight (flights_of slots J p)) (needs (own slots J p) mine)) (mine-same slots J p course.mine) apart
 
   over-then : is_live (own slots (added J obeying) p).registers.state ≡ false → (d : ℕ) → flights_of slots (added J obeying) p d ≡ None
   over-then dead d =
@@ -204,26 +206,26 @@ module _ (slots : List Slot) (J : List Entry) (p : ℕ) (answer : Question → �
 
 -- ---- a program of which another journal tells the same
 course-like : (slots : List Slot) (J K : List Entry) (q : ℕ) → ran q K ≡ ran q J → own slots K q ≡ own slots J q
-    → ((d : ℕ) → flights_of slots K q d ≡ flights_of slots J q d) → ((d : ℕ) → IsPast q (ran q J) (pending_in d K))
-    → ((d : ℕ) → is_of q (pending_in d K) ≡ is_of q (pending_in d J)) → IsOnCourse slots J q → IsOnCourse slots K q
+    → ((d : ℕ) → flights_of slots K q d ≡ flights_of slots J q d) → ((d : ℕ) → IsPast q (ran q J) (pending d K))
+    → ((d : ℕ) → is_of q (pending d K) ≡ is_of q (pending d J)) → IsOnCourse slots J q → IsOnCourse slots K q
 course-like slots J K q count same flights past mine course = record {
-  past = λ d. subst (λ (n : ℕ). IsPast q n (pending_in d K)) (sym count) (past d);
+  past = λ d. subst (λ (n : ℕ). IsPast q n (pending d K)) (sym count) (past d);
   mine = λ d. ap is_some (flights d) ∙ course.mine d ∙ sym (mine d);
   flying = subst₂ AreFlying (sym (fun_ext flights)) (sym same) course.flying;
   over = λ dead d. flights d ∙ course.over (sym (ap (λ (s : State). is_live s.registers.state) same) ∙ dead) d;
 }
 
 -- a step that runs no order of it and touches no transfer
-pub flights-quiet : (slots : List Slot) (J : List Entry) (s : Step) (q : ℕ) → (own slots J q).stock.asked ≡ length (answers q J)
-    → ((d : ℕ) → pending_by d (pending_in d J) s ≡ pending_in d J) → ((d : ℕ) → moved_by d (moved_if d J) s ≡ moved_if d J) → IsOnCourse slots J q → (d : ℕ)
+pub flights-quiet : (slots : List Slot) (J : List Entry) (s : JournalStep) (q : ℕ) → (own slots J q).stock.asked ≡ length (answers q J)
+    → ((d : ℕ) → pending_by d (pending d J) s ≡ pending d J) → ((d : ℕ) → moved_by d (moved_if d J) s ≡ moved_if d J) → IsOnCourse slots J q → (d : ℕ)
     → flights_of slots (added J s) q d ≡ flights_of slots J q d
 flights-quiet slots J s q asked same words course d = flight-stays slots J q asked course.past s d (same d) (words d)
 
-course-quiet : (slots : List Slot) (J : List Entry) (s : Step) (q : ℕ) → (own slots J q).stock.asked ≡ length (answers q J) → ran_by q s ≡ 0
-    → answers_by q s ≡ [] → ((d : ℕ) → pending_by d (pending_in d J) s ≡ pending_in d J) → ((d : ℕ) → moved_by d (moved_if d J) s ≡ moved_if d J)
+course-quiet : (slots : List Slot) (J : List Entry) (s : JournalStep) (q : ℕ) → (own slots J q).stock.asked ≡ length (answers q J) → ran_by q s ≡ 0
+    → answers_by q s ≡ [] → ((d : ℕ) → pending_by d (pending d J) s ≡ pending d J) → ((d : ℕ) → moved_by d (moved_if d J) s ≡ moved_if d J)
     → IsOnCourse slots J q → IsOnCourse slots (added J s) q
 course-quiet slots J s q asked none silent same words course =
-    let there : (d : ℕ) → pending_in d (added J s) ≡ pending_in d J = λ d. pending-added d J s ∙ same d in
+    let there : (d : ℕ) → pending d (added J s) ≡ pending d J = λ d. pending-added d J s ∙ same d in
     course-like slots J (added J s) q
     (ran-added q J s ∙ omega (arith, none))
     (own-same slots J s q none silent)
@@ -234,25 +236,25 @@ course-quiet slots J s q asked none silent same words course =
 
 -- ---- a program beside the one that obeys
 none_of : (o : Option (ℕ × ℕ)) → is_some o ≡ false → o ≡ None
-none_of None free = refl
-none_of (Some begun) free = cc
+none_of None free_hides_none = refl
+none_of (Some begun) free_hides_none = cc
 
 module _ (slots : List Slot) (J : List Entry) (p q : ℕ) (answer : Question → ℕ) (differ : p ≢ q) (asked : (own slots J q).stock.asked ≡ length (answers q J))
     (course : IsOnCourse slots J q) where
-  abbrev noting : Effect → Step
+  abbrev noting : Effect → JournalStep
   noting e = Obeys p (note_of_outcome (done_by answer e (own slots J p)))
 
   other : eqb p q ≡ false
   other = ne_eqb p q differ
 
   abbrev behind : ℕ → Effect → Option (ℕ × ℕ)
-  behind d e = pending_behind p ((own slots J p).registers.ran + 1) d (pending_in d J) e
+  behind d e = pending_behind p ((own slots J p).registers.ran + 1) d (pending d J) e
 
-  pending-beside : (d : ℕ) (e : Effect) → pending_in d (added J (noting e)) ≡ behind d e
-  pending-beside d e = pending-added d J (noting e) ∙ pending-obeys p d (pending_in d J) answer e (own slots J p)
+  pending-beside : (d : ℕ) (e : Effect) → pending d (added J (noting e)) ≡ behind d e
+  pending-beside d e = pending-added d J (noting e) ∙ pending-obeys p d (pending d J) answer e (own slots J p)
 
   -- a transfer of another program is none of this one's
-  theirs : (d k : ℕ) (e : Effect) → pending_in d (added J (noting e)) ≡ begun_at p k → flights_of slots (added J (noting e)) q d ≡ None
+  theirs : (d k : ℕ) (e : Effect) → pending d (added J (noting e)) ≡ begun_at p k → flights_of slots (added J (noting e)) q d ≡ None
   unfolding flights_of
   theirs d k e is =
       ap (flight_of slots (added J (noting e)) q d) is ∙ ap (λ (b : Bool). cond b (flight_from slots (added J (noting e)) q d k) None) other
@@ -263,13 +265,13 @@ module _ (slots : List Slot) (J : List Entry) (p q : ℕ) (answer : Question →
       ⊎_elim
       (λ (same : x ≡ d).
       let k : ℕ = (own slots J p).registers.ran + 1 in
-      let free : pending_in d J ≡ None = none_of (pending_in d J) (ap (λ (y : ℕ). is_some (pending_in y J)) (sym same) ∙ (or_parts _ _ none).0) in
+      let free_hides_none : pending d J ≡ None = none_of (pending d J) (ap (λ (y : ℕ). is_some (pending y J)) (sym same) ∙ (or_parts _ _ none).0) in
       theirs d k (Starting x o first last after) (pending-beside d (Starting x o first last after)
-      ∙ ap (λ (b : Bool). cond b (begun_at p k) (pending_in d J)) (eq-eqb x d same))
-      ∙ sym (none-there slots J q asked course.past d free))
+      ∙ ap (λ (b : Bool). cond b (begun_at p k) (pending d J)) (eq-eqb x d same))
+      ∙ sym (none-there slots J q asked course.past d free_hides_none))
       (λ (ne : x ≢ d).
       flight-stays slots J q asked course.past (noting (Starting x o first last after)) d
-      (ap (λ (b : Bool). cond b (begun_at p ((own slots J p).registers.ran + 1)) (pending_in d J)) (ne_eqb x d ne))
+      (ap (λ (b : Bool). cond b (begun_at p ((own slots J p).registers.ran + 1)) (pending d J)) (ne_eqb x d ne))
       (ap (λ (b : Bool). cond b (Some 0) (moved_if d J)) (ne_eqb x d ne)))
       (cases_eq x d)
   flights-beside mine (Failing kind) none d = flight-stays slots J q asked course.past (noting (Failing kind)) d refl refl
@@ -282,21 +284,21 @@ module _ (slots : List Slot) (J : List Entry) (p q : ℕ) (answer : Question →
   past-beside : (d : ℕ) (e : Effect) → IsPast q (ran q J) (behind d e)
   past-beside d (Starting x o first last after) = at (eqb x d)
     where
-      at : (b : Bool) → IsPast q (ran q J) (cond b (begun_at p ((own slots J p).registers.ran + 1)) (pending_in d J))
+      at : (b : Bool) → IsPast q (ran q J) (cond b (begun_at p ((own slots J p).registers.ran + 1)) (pending d J))
       at true = λ mine. absurd (false≢true (sym other ∙ mine))
       at false = course.past d
   past-beside d e = course.past d
 
   mine-beside : (mine : List ℕ) (e : Effect) → HidesNone (is_pending_after slots J p) (effect_needs mine e) → (d : ℕ)
-      → is_of q (behind d e) ≡ is_of q (pending_in d J)
+      → is_of q (behind d e) ≡ is_of q (pending d J)
   mine-beside mine (Starting x o first last after) none d =
       ⊎_elim
       (λ (same : x ≡ d).
-      let free : pending_in d J ≡ None = none_of (pending_in d J) (ap (λ (y : ℕ). is_some (pending_in y J)) (sym same) ∙ (or_parts _ _ none).0) in
-      ap (λ (b : Bool). is_of q (cond b (begun_at p ((own slots J p).registers.ran + 1)) (pending_in d J))) (eq-eqb x d same)
+      let free_hides_none : pending d J ≡ None = none_of (pending d J) (ap (λ (y : ℕ). is_some (pending y J)) (sym same) ∙ (or_parts _ _ none).0) in
+      ap (λ (b : Bool). is_of q (cond b (begun_at p ((own slots J p).registers.ran + 1)) (pending d J))) (eq-eqb x d same)
       ∙ other
-      ∙ sym (ap (is_of q) free))
-      (λ (ne : x ≢ d). ap (λ (b : Bool). is_of q (cond b (begun_at p ((own slots J p).registers.ran + 1)) (pending_in d J))) (ne_eqb x d ne))
+      ∙ sym (ap (is_of q) free_hides_none))
+      (λ (ne : x ≢ d). ap (λ (b : Bool). is_of q (cond b (begun_at p ((own slots J p).registers.ran + 1)) (pending d J))) (ne_eqb x d ne))
       (cases_eq x d)
   mine-beside mine e none d = refl
 
@@ -359,10 +361,10 @@ module _ (slots : List Slot) (J : List Entry) (p : ℕ) (asked : (own slots J p)
       let flights : flights_of slots (added J (Ends e)) p ≡ with_flight e None (flights_of slots J p) = flights-end slots J p asked course.past e in
       let count : ran p (added J (Ends e)) ≡ ran p J = ran-added p J (Ends e) ∙ omega arith in
       record {
-        past = λ d. subst₂ (IsPast p) (sym count) (sym (pending-added d J (Ends e))) (past_none (eqb e d) p (ran p J) (pending_in d J) (course.past d));
+        past = λ d. subst₂ (IsPast p) (sym count) (sym (pending-added d J (Ends e))) (past_none (eqb e d) p (ran p J) (pending d J) (course.past d));
         mine = λ d.
             ap (λ (fs : ℕ → Option Flight). is_some (fs d)) flights
-            ∙ mine_ended p e d (flights_of slots J p) (pending_in d J) (course.mine d)
+            ∙ mine_ended p e d (flights_of slots J p) (pending d J) (course.mine d)
             ∙ sym (ap (is_of p) (pending-added d J (Ends e)));
         flying = subst₂ AreFlying (sym flights) (sym same) (flying_ended (flights_of slots J p) (own slots J p) e course.flying);
         over = λ dead d.
@@ -403,11 +405,12 @@ course-turn slots J p answer live none kept course q =
     (effect-free (is_pending_after slots J p) (mine_after J p) (own slots J p) none))
     (cases_eq p q)
 
-course-added : (slots : List Slot) (J : List Entry) (s : Step) → rules.Meets (lone_dispatched slots J) (any_answer slots J) J s → ((q : ℕ) → IsKept slots J q)
+course-added : (slots : List Slot) (J : List Entry) (s : JournalStep) → rules.Meets (lone_dispatched slots J) (any_answer slots J) J s
+    → ((q : ℕ) → IsKept slots J q)
     → ((q : ℕ) → IsOnCourse slots J q) → (q : ℕ) → IsOnCourse slots (added J s) q
 course-added slots J (Obeys p note) m kept course q =
     let live : is_live (own slots J p).registers.state ≡ true = (kept p).alive ∙ next_on (lone_world slots J) slots J p m.0 in
-    rw m.2.1 (course-turn slots J p (λ _. m.2.0) live (free slots J p (free_need (first_need (lone_world slots J) p) m.1)) kept course q)
+    rw m.2.1 (course-turn slots J p (λ _. m.2.0) live (free_hides_none slots J p (free_need (first_need (lone_world slots J) p) m.1)) kept course q)
 course-added slots J (Holds p by) m kept course q = course-quiet slots J (Holds p by) q (kept q).asked refl refl (λ d. refl) (λ d. refl) (course q)
 course-added slots J Waits m kept course q = course-quiet slots J Waits q (kept q).asked refl refl (λ d. refl) (λ d. refl) (course q)
 course-added slots J (Moves d n) m kept course q = course-move slots J q (kept q).asked (course q) d n
@@ -428,7 +431,7 @@ course-first slots are p = record {
   over = λ dead d. none-first slots p d;
 }
 
-course_of : (slots : List Slot) → AreSlots slots → (P : List Step) → EachMeets slots P → (q : ℕ) → IsOnCourse slots (journal_of P) q
+course_of : (slots : List Slot) → AreSlots slots → (P : List JournalStep) → EachMeets slots P → (q : ℕ) → IsOnCourse slots (journal_of P) q
 course_of slots are [] m q = course-first slots are q
 course_of slots are (s ∷ P) m q = course-added slots (journal_of P) s m.1 (kept_of slots P m.0) (course_of slots are P m.0) q
 

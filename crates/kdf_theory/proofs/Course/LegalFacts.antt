@@ -6,7 +6,8 @@ use Rattle.kdf_processor.specs.Lone.{is_live}
 use Rattle.kdf_transfer.specs.Slots.{Slot}
 use Rattle.kdf_journal.specs.declared.entry.Entry.{Entry}
 use Rattle.kdf_journal.specs.Counts.{answers, over}
-use Rattle.kdf_journal.specs.Steps.{Note, Quiet, Began, Answered, Took, Gave, Failed, Finished, Step, Obeys, Holds, Waits, Moves, Ends, Sets, Swaps, added}
+use Rattle.kdf_journal.specs.Steps.{Note, Quiet, Began, Answered, Took, Gave, Failed, Finished, JournalStep, Obeys, Holds, Waits, Moves, Ends, Sets, Swaps}
+use Rattle.kdf_journal.specs.Steps.{added}
 use Rattle.kdf_journal.specs.Steps.{journal_of, steps}
 use Rattle.kdf_journal.proofs.Added.{ran_by, answers_by, answers-added, ends_by, over-added}
 use Rattle.kdf_theory.specs.ByJournal.{own, lone_world}
@@ -41,7 +42,7 @@ ends_not p q (Failed kind) apart = apart
 ends_not p q Finished apart = apart
 
 -- a program that a step neither runs nor answers stays
-kept-stays : (slots : List Slot) (J : List Entry) (s : Step) (q : ℕ) → ran_by q s ≡ 0 → answers_by q s ≡ [] → ends_by q s ≡ false → IsKept slots J q
+kept-stays : (slots : List Slot) (J : List Entry) (s : JournalStep) (q : ℕ) → ran_by q s ≡ 0 → answers_by q s ≡ [] → ends_by q s ≡ false → IsKept slots J q
     → IsKept slots (added J s) q
 kept-stays slots J s q none silent on kept = record {
   alive = rw (own-same slots J s q none silent, over-added q J s, on) kept.alive;
@@ -68,7 +69,8 @@ kept-turn slots J p answer on kept q =
           kept-stays slots J (Obeys p note) q (rw other refl) (rw other refl) (ends_not p q note other) (kept q)
     ]
 
-kept-added : (slots : List Slot) (J : List Entry) (s : Step) → course.Meets (lone_dispatched slots J) (any_answer slots J) J s → ((q : ℕ) → IsKept slots J q)
+kept-added : (slots : List Slot) (J : List Entry) (s : JournalStep) → course.Meets (lone_dispatched slots J) (any_answer slots J) J s
+    → ((q : ℕ) → IsKept slots J q)
     → (q : ℕ) → IsKept slots (added J s) q
 kept-added slots J (Obeys p note) m kept q = rw m.2.1 (kept-turn slots J p (λ _. m.2.0) (next_on (lone_world slots J) slots J p m.0) kept q)
 kept-added slots J (Holds p by) m kept q = kept-stays slots J (Holds p by) q refl refl refl (kept q)
@@ -78,7 +80,7 @@ kept-added slots J (Ends d) m kept q = kept-stays slots J (Ends d) q refl refl r
 kept-added slots J (Sets t) m kept q = kept-stays slots J (Sets t) q refl refl refl (kept q)
 kept-added slots J (Swaps p r) m kept q = kept-stays slots J (Swaps p r) q refl refl refl (kept q)
 
-pub kept_of : (slots : List Slot) (P : List Step) → EachMeets slots P → (q : ℕ) → IsKept slots (journal_of P) q
+pub kept_of : (slots : List Slot) (P : List JournalStep) → EachMeets slots P → (q : ℕ) → IsKept slots (journal_of P) q
 kept_of slots [] m q = record { alive = rw (own-nil slots q) (live-start slots q); asked = rw (own-nil slots q) (asked-start slots q) }
 kept_of slots (s ∷ P) m q = kept-added slots (journal_of P) s m.1 (kept_of slots P m.0) q
 

@@ -1,7 +1,7 @@
 -- A live program's next order, by itself: what its note tells.
 use Rattle.std.proofs.Common.{◌≡◌, ℕ, ◌+◌, List, [], ◌∷◌, ◌++◌, length, get_or, Bool, true, false, Option, Some, None, refl, add-one}
 use Rattle.std.proofs.Math.Seq.{get_or-append_seam}
-use Rattle.kdf_processor.specs.Effect.{Question, Effect, Failing, Ending as Finishing, Asking, FreeOf, Returning}
+use Rattle.kdf_processor.specs.Effect.{Question, Effect, Failing, Ending, Asking, FreeOf, Returning}
 use Rattle.kdf_processor.specs.Lone.{is_live, lone_step, lone}
 use Rattle.kdf_processor.specs.Needs.{next_effect}
 use Rattle.kdf_processor.specs.Row.{done_by, next_of, perform, row}
@@ -25,7 +25,7 @@ goes_on Finished = false
 life_done : (answer : Question → ℕ) (e : Effect) (s : State) → is_live s.registers.state ≡ true
     → is_live (perform answer e s).registers.state ≡ goes_on (note_of_outcome (done_by answer e s))
 life_done answer (Failing kind) s live = refl
-life_done answer (Finishing after) s live = refl
+life_done answer (Ending after) s live = refl
 life_done answer (Asking (FreeOf kind) after) s live = live
 life_done answer (Returning true d after) s live = live
 life_done answer (Returning false d after) s live = live

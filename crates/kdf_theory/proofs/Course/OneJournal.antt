@@ -6,14 +6,14 @@ use Rattle.std.proofs.lemmas.List.Elements.{All-head, All-tail}
 use Rattle.kdf_processor.specs.Effect.{Question, IsBusy, IsOut, Time, FreeOf, OfService, Effect, Asking}
 use Rattle.kdf_transfer.specs.Slots.{Slot}
 use Rattle.kdf_journal.specs.declared.entry.Entry.{Entry}
-use Rattle.kdf_journal.specs.Steps.{Note, Step, added, steps, Answered, Took}
+use Rattle.kdf_journal.specs.Steps.{Note, JournalStep, added, steps, Answered, Took}
 use Rattle.kdf_schedule.specs.declared.event.Event.{Event}
 use Rattle.kdf_schedule.specs.Calls.{Call, calls_made}
 use Rattle.kdf_course.specs.Cut.{cut}
 use Rattle.kdf_course.specs.Follows as any
 use Rattle.kdf_course.specs.Legal as course
 use Rattle.kdf_course.proofs.Cuts.{journal-cut, noted-cut, whole-cut}
-use Rattle.kdf_course.proofs.Fronts.{one_journal_lem as any-one, resumed_lem as any-resumed, stopped_lem as any-stopped}
+use Rattle.kdf_course.proofs.Fronts.{one_journal_lem, resumed_lem, stopped_lem}
 use Rattle.kdf_course.proofs.Steps.{each-noted-within, legal-both, legal-noted, legal-within, noted-added, noted-nil, noted-within}
 use Rattle.kdf_theory.specs.Follows.{Follows, IsWhole, IsRising}
 use Rattle.kdf_theory.specs.Legal.{any_answer, IsLegal, answers_by, is_true, is_truth, lone_note, IsAnswer, IsTrue}
@@ -29,7 +29,7 @@ use Rattle.kdf_theory.specs.Slots.{NoneServed, slot_of, start, start_of}
 use Rattle.kdf_theory.specs.ByJournal.{lone_world, own}
 use Rattle.kdf_theory.specs.True.{truth}
 use Rattle.kdf_theory.proofs.Course.HeardWords.{none_heard, none_asked}
-use Rattle.kdf_course.proofs.OneJournal.{a_journal_lem as any-some}
+use Rattle.kdf_course.proofs.OneJournal.{a_journal_lem}
 
 -- a program that isn't served at its start never is
 unserved_one : (b : Bool) (x : Slot) (rest : Option Slot) → x.served ≡ false → (start_of rest).stock.claims.served ≡ false
@@ -150,7 +150,7 @@ module _ (answers : ℕ → ℕ → Type 0) (slots : List Slot) where
   pub true_for_nil : IsTrueFor answers slots []
   true_for_nil = noted-nil (is_true_for answers slots)
 
-  pub true_for_added : (J : List Entry) (s : Step) → IsLegal slots J → IsTrueFor answers slots J → course.Noted (is_true_for answers slots J) s
+  pub true_for_added : (J : List Entry) (s : JournalStep) → IsLegal slots J → IsTrueFor answers slots J → course.Noted (is_true_for answers slots J) s
       → IsTrueFor answers slots (added J s)
   true_for_added J s l truly noted = noted-added (is_true_for answers slots) J s l.in_form truly noted
 
@@ -178,7 +178,7 @@ module _ (answers : ℕ → ℕ → Type 0) (slots : List Slot) where
   -- slots of which none is served have a journal
   pub a_journal_for : NoneServed slots → (events : List Event) → IsRising 0 events → (J : List Entry) × IsOf events J
   a_journal_for none events rises =
-      let j = any-some (lone_dispatched slots) admitted (lone_note slots 0)
+      let j = a_journal_lem (lone_dispatched slots) admitted (lone_note slots 0)
       (λ J p. (within_any slots 0 J p (lone_note slots 0 J p) refl, heard_note J p 0 (none_heard answers 0 (own slots J p) (own_unserved slots none J p))))
       events rises in
       (j.0, from_any events j.0 j.1)
@@ -196,14 +196,15 @@ module _ (answers : ℕ → ℕ → Type 0) (slots : List Slot) where
     one_note_for = one_answer slots (is_served answers slots) one_served
 
     pub one_for : (events : List Event) (J K : List Entry) → IsOf events J → IsOf events K → J ≡ K
-    one_for events J K j k = any-one (lone_dispatched slots) admitted events J K one_note_for (to_any events J j) (to_any events K k)
+    one_for events J K j k = one_journal_lem (lone_dispatched slots) admitted events J K one_note_for (to_any events J j) (to_any events K k)
 
-    pub resumed_for : (events further : List Event) (J K : List Entry) → IsOf events J → IsOf (events ++ further) K → (Q : List Step) × (steps K ≡ Q ++ steps J)
-    resumed_for events further J K j k = any-resumed (lone_dispatched slots) admitted events further J K one_note_for (to_any events J j)
+    pub resumed_for : (events further : List Event) (J K : List Entry) → IsOf events J → IsOf (events ++ further) K
+        → (Q : List JournalStep) × (steps K ≡ Q ++ steps J)
+    resumed_for events further J K j k = resumed_lem (lone_dispatched slots) admitted events further J K one_note_for (to_any events J j)
         (to_any (events ++ further) K k)
 
     pub stopped_for : (events : List Event) (left : List Call) (J K : List Entry) → IsLegal slots J → IsTrueFor answers slots J
-        → Follows slots (calls_made events) left J → IsOf events K → (Q : List Step) × (steps K ≡ Q ++ steps J)
+        → Follows slots (calls_made events) left J → IsOf events K → (Q : List JournalStep) × (steps K ≡ Q ++ steps J)
     stopped_for events left J K l truly f k =
-        any-stopped (lone_dispatched slots) admitted events left J K one_note_for
+        stopped_lem (lone_dispatched slots) admitted events left J K one_note_for
         (legal-both (lone_dispatched slots) (any_answer slots) (is_true_for answers slots) J l truly) f (to_any events K k)

@@ -17,7 +17,7 @@ use Rattle.kdf_theory.specs.True.{truth}
 use Rattle.kdf_theory.specs.World.{first_need}
 use Rattle.kdf_theory.proofs.Course.WorldsJudged.{free_need}
 use Rattle.kdf_theory.proofs.Course.LegalFacts.{legal_alive, legal_asked}
-use Rattle.kdf_theory.proofs.Course.FlightsOnCourse.{effect-free, flights-beside, flights-then, free, legal-course, own-beside, seen-then}
+use Rattle.kdf_theory.proofs.Course.FlightsOnCourse.{effect-free, flights-beside, flights-then, free_hides_none, legal-course, own-beside, seen-then}
 use Rattle.kdf_theory.proofs.Course.OwnSteps.{own-obeys}
 use Rattle.kdf_theory.proofs.Course.Worlds.{next_on}
 
@@ -38,16 +38,16 @@ module _ (slots : List Slot) (J : List Entry) (p : ℕ) (heard : ℕ) (note : No
   pub obeys-flights : AreSlots slots → flights_of slots (added J (Obeys p note)) p ≡ flights_after (flights_of slots J p) (own slots J p)
       (next_effect (own slots J p))
   obeys-flights are =
-      rw m.2 (flights-then slots J p answer (legal_asked slots J l p) live (legal-course slots J are l p) (free slots J p none_holds))
+      rw m.2 (flights-then slots J p answer (legal_asked slots J l p) live (legal-course slots J are l p) (free_hides_none slots J p none_holds))
 
   pub obeys-seen : AreSlots slots → seen_of slots (added J (Obeys p note)) p ≡ begun_row (seen_of slots J p) answer
   obeys-seen are =
-      rw m.2 (seen-then slots J p answer (legal_asked slots J l p) live (legal-course slots J are l p) (free slots J p none_holds))
+      rw m.2 (seen-then slots J p answer (legal_asked slots J l p) live (legal-course slots J are l p) (free_hides_none slots J p none_holds))
 
   pub obeys-others : AreSlots slots → (q : ℕ) → p ≢ q → (own slots (added J (Obeys p note)) q ≡ own slots J q)
       × (flights_of slots (added J (Obeys p note)) q ≡ flights_of slots J q)
   obeys-others are q differ =
-      let none = effect-free (is_pending_after slots J p) (mine_after J p) (own slots J p) (free slots J p none_holds) in
+      let none = effect-free (is_pending_after slots J p) (mine_after J p) (own slots J p) (free_hides_none slots J p none_holds) in
       rw m.2 (
         own-beside slots J p q answer differ (legal_asked slots J l q) (legal-course slots J are l q) (next_effect (own slots J p)),
         fun_ext (flights-beside slots J p q answer differ (legal_asked slots J l q) (legal-course slots J are l q) (mine_after J p)

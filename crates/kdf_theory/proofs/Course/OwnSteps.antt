@@ -12,7 +12,7 @@ use Rattle.kdf_processor.proofs.LoneLemmas.{longer}
 use Rattle.kdf_processor.proofs.RowFacts.{asks, asked_row, live_step, next_answer, ran_live}
 use Rattle.kdf_journal.specs.declared.entry.Entry.{Entry}
 use Rattle.kdf_journal.specs.Counts.{ran, answers}
-use Rattle.kdf_journal.specs.Steps.{Note, Step, Obeys, added}
+use Rattle.kdf_journal.specs.Steps.{Note, JournalStep, Obeys, added}
 use Rattle.kdf_journal.proofs.Added.{ran_by, ran-added, answer_in_note, answers_by, answers-added}
 use Rattle.kdf_theory.specs.Slots.{slot_of, start_of, start}
 use Rattle.kdf_theory.specs.ByJournal.{own}
@@ -49,11 +49,11 @@ pub asked-start : (slots : List Slot) (p : ℕ) → (start slots p).stock.asked 
 asked-start slots p = none_asked (slot_of slots p)
 
 -- a program that a step neither runs nor answers stays
-pub own-same : (slots : List Slot) (J : List Entry) (s : Step) (q : ℕ) → ran_by q s ≡ 0 → answers_by q s ≡ [] → own slots (added J s) q ≡ own slots J q
+pub own-same : (slots : List Slot) (J : List Entry) (s : JournalStep) (q : ℕ) → ran_by q s ≡ 0 → answers_by q s ≡ [] → own slots (added J s) q ≡ own slots J q
 unfolding own
 own-same slots J s q r a = rw (ran-added q J s, answers-added q J s, r, a, add-zero, append-nil)
 
-own-more : (slots : List Slot) (J : List Entry) (s : Step) (q : ℕ) (given : List ℕ) → ran_by q s ≡ 1 → answers_by q s ≡ given
+own-more : (slots : List Slot) (J : List Entry) (s : JournalStep) (q : ℕ) (given : List ℕ) → ran_by q s ≡ 1 → answers_by q s ≡ given
     → (own slots J q).stock.asked ≤ length (answers q J)
     → own slots (added J s) q ≡ lone_step (answers q J ++ given) (own slots J q)
 unfolding own

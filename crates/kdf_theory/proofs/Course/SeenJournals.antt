@@ -13,15 +13,15 @@ use Rattle.kdf_processor.proofs.FrameLemmas.{agree_under, first_agree}
 use Rattle.kdf_processor.proofs.LoneLemmas.{same_end}
 use Rattle.kdf_schedule.specs.Calls.{Call, AnOrder, AMove, AnEnd, AClock, ASwap}
 use Rattle.std.specs.Option.{option_map}
-use Rattle.kdf_course.specs.Course.{turn, turn_of}
+use Rattle.kdf_course.specs.Course.{turn_step, turn_step_of}
 use Rattle.kdf_theory.specs.Course.{step_at, lone_step_at}
 use Rattle.kdf_journal.specs.declared.entry.Entry.{Entry}
 use Rattle.kdf_journal.specs.Counts.{answers, ran}
-use Rattle.kdf_journal.specs.Steps.{Note, Step, Obeys, Holds, Waits, Moves, Ends, Sets, Swaps, added}
+use Rattle.kdf_journal.specs.Steps.{Note, JournalStep, Obeys, Holds, Waits, Moves, Ends, Sets, Swaps, added}
 use Rattle.kdf_theory.specs.Flights.{Flight, completed, unmoved, with_flight}
 use Rattle.kdf_theory.specs.Legal.{lone_note, note_of, note_of_outcome, true_note, Meets}
 use Rattle.kdf_theory.specs.Next.{dispatched, lone_dispatched, next}
-use Rattle.kdf_theory.specs.Seen.{pending, seen, with_both, with_store}
+use Rattle.kdf_theory.specs.Seen.{pending_in_flight, seen, with_both, with_store}
 use Rattle.kdf_theory.specs.Slots.{start}
 use Rattle.kdf_theory.specs.ByJournal.{own_after, own, flights_of, further, is_pending_after, lone_world, mine_after, seen_of, seen_world}
 use Rattle.kdf_theory.specs.True.{truth}
@@ -31,7 +31,7 @@ use Rattle.kdf_theory.proofs.Seen.TransfersEnd.{ends_seen}
 use Rattle.kdf_theory.proofs.Course.FlightsAdded.{flights-end, flights-move}
 use Rattle.kdf_theory.proofs.Course.WorldsJudged.{free_need}
 use Rattle.kdf_theory.proofs.Seen.WordsMove.{moves_seen, with_flight_itself}
-use Rattle.kdf_theory.proofs.Course.FlightsOnCourse.{IsOnCourse, apart-mine, free, pending-more}
+use Rattle.kdf_theory.proofs.Course.FlightsOnCourse.{IsOnCourse, apart-mine, free_hides_none, pending-more}
 use Rattle.kdf_theory.proofs.Course.OwnSteps.{own-same}
 use Rattle.kdf_theory.proofs.Seen.SeenStates.{seen_agrees, seen_nothing}
 use Rattle.kdf_theory.proofs.Course.Worlds.{next-world}
@@ -43,7 +43,7 @@ pub same-need : (slots : List Slot) (J : List Entry) (p : ℕ) → first_need (s
 unfolding first_need
 same-need slots J p =
     sym (first_agree (is_pending_after slots J p) (mine_after J p) (own slots J p) (seen_of slots J p)
-    (agree_under (pending (flights_of slots J p)) (is_pending_after slots J p) (own slots J p) (seen_of slots J p) (pending-more slots J p)
+    (agree_under (pending_in_flight (flights_of slots J p)) (is_pending_after slots J p) (own slots J p) (seen_of slots J p) (pending-more slots J p)
     (seen_agrees (flights_of slots J p) (own slots J p))))
 
 note_alike : (flights : ℕ → Option Flight) (answer : Question → ℕ) (e : Effect) (s : State) → note_of_outcome (done_by answer e (seen flights s))
@@ -56,11 +56,11 @@ pub same-note : (slots : List Slot) (J : List Entry) (p : ℕ) (answer : Questio
     → note_of (seen_of slots J p) answer ≡ note_of (own slots J p) answer
 same-note slots J p answer none =
     ap (λ (e : Effect). note_of_outcome (done_by answer e (seen_of slots J p)))
-    (sym (same_next (flights_of slots J p) (mine_after J p) (own slots J p) (apart-mine slots J p (free slots J p none))))
+    (sym (same_next (flights_of slots J p) (mine_after J p) (own slots J p) (apart-mine slots J p (free_hides_none slots J p none))))
     ∙ note_alike (flights_of slots J p) answer (next_effect (own slots J p)) (own slots J p)
 
 -- so a step that meets the rules by what is seen meets them by the lone states
-pub judged : (slots : List Slot) (J : List Entry) (heard : ℕ) (s : Step) → Meets (seen_world slots J) slots J heard s
+pub judged : (slots : List Slot) (J : List Entry) (heard : ℕ) (s : JournalStep) → Meets (seen_world slots J) slots J heard s
     → Meets (lone_world slots J) slots J heard s
 judged slots J heard (Obeys p note) m =
     let none : first_need (lone_world slots J) p ≡ None = sym (same-need slots J p) ∙ free_need (first_need (seen_world slots J) p) m.1 in (
@@ -78,19 +78,21 @@ judged slots J heard (Swaps p q) m = m
 
 -- and each call makes the same step
 same-turn : (slots : List Slot) (J : List Entry) (heard p : ℕ) (o : Option Need) → first_need (lone_world slots J) p ≡ o
-    → turn (true_note (seen_world slots J) J heard) p (option_map hold_of o) ≡ turn (lone_note slots heard J) p (option_map hold_of o)
+    → turn_step (true_note (seen_world slots J) J heard) p (option_map hold_of o) ≡ turn_step (lone_note slots heard J) p (option_map hold_of o)
 same-turn slots J heard p None none = ap (λ (n : Note). Obeys p n) (same-note slots J p (truth (lone_world slots J) J p heard) none)
 same-turn slots J heard p (Some need) held = refl
 
 same-turn_of : (slots : List Slot) (J : List Entry) (heard : ℕ) (o : Option ℕ)
-    → turn_of (dispatched slots (seen_world slots J)) (true_note (seen_world slots J) J heard) o ≡ turn_of (lone_dispatched slots J) (lone_note slots heard J) o
+    → turn_step_of (dispatched slots (seen_world slots J)) (true_note (seen_world slots J) J heard) o
+    ≡ turn_step_of (lone_dispatched slots J) (lone_note slots heard J) o
 same-turn_of slots J heard None = refl
-same-turn_of slots J heard (Some p) = ap (λ (o : Option Need). turn (true_note (seen_world slots J) J heard) p (option_map hold_of o)) (same-need slots J p)
+same-turn_of slots J heard (Some p) =
+    ap (λ (o : Option Need). turn_step (true_note (seen_world slots J) J heard) p (option_map hold_of o)) (same-need slots J p)
     ∙ same-turn slots J heard p (first_need (lone_world slots J) p) refl
 
 pub same-step : (slots : List Slot) (J : List Entry) (heard : ℕ) (c : Call) → step_at (seen_world slots J) slots J heard c ≡ lone_step_at slots J heard c
 same-step slots J heard AnOrder =
-    ap (turn_of (dispatched slots (seen_world slots J)) (true_note (seen_world slots J) J heard)) (next-world (seen_of slots J) (own slots J) slots J)
+    ap (turn_step_of (dispatched slots (seen_world slots J)) (true_note (seen_world slots J) J heard)) (next-world (seen_of slots J) (own slots J) slots J)
     ∙ same-turn_of slots J heard (next (lone_world slots J) slots J)
 same-step slots J heard (AMove d n) = refl
 same-step slots J heard (AnEnd d) = refl

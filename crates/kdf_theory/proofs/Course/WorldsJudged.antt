@@ -10,7 +10,8 @@ use Rattle.kdf_transfer.specs.Slots.{Slot}
 use Rattle.kdf_processor.specs.State.{State}
 use Rattle.kdf_journal.specs.declared.entry.Entry.{Entry}
 use Rattle.kdf_journal.specs.Counts.{Hold}
-use Rattle.kdf_journal.specs.Steps.{Note, Quiet, Began, Answered, Took, Gave, Failed, Finished, Step, Obeys, Holds, Waits, Moves, Ends, Sets, Swaps, added}
+use Rattle.kdf_journal.specs.Steps.{Note, Quiet, Began, Answered, Took, Gave, Failed, Finished, JournalStep, Obeys, Holds, Waits, Moves, Ends, Sets, Swaps}
+use Rattle.kdf_journal.specs.Steps.{added}
 use Rattle.kdf_journal.specs.Steps.{journal_of}
 use Rattle.kdf_course.specs.Legal as course
 use Rattle.kdf_course.specs.Cut.{cut}
@@ -142,7 +143,7 @@ true_noted slots J p e s v is = refl
 
 -- a step that meets the rules, and whose answer is the true one, truly meets them where some number was heard of the
 -- service
-pub meets_truly : (slots : List Slot) (J : List Entry) (s : Step) → course.Meets (lone_dispatched slots J) (any_answer slots J) J s
+pub meets_truly : (slots : List Slot) (J : List Entry) (s : JournalStep) → course.Meets (lone_dispatched slots J) (any_answer slots J) J s
     → course.Noted (is_true slots J) s → (heard : ℕ) × Meets (lone_world slots J) slots J heard s
 meets_truly slots J (Obeys p n) m truly =
     let v = m.2.0 in
@@ -159,12 +160,13 @@ meets_truly slots J (Sets t) m truly = (0, m)
 meets_truly slots J (Swaps p q) m truly = (0, m)
 
 -- a step that meets the rules truly meets them, and its answer is the true one
-pub meets_any : (slots : List Slot) (J : List Entry) (heard : ℕ) (s : Step) → Meets (lone_world slots J) slots J heard s
+pub meets_any : (slots : List Slot) (J : List Entry) (heard : ℕ) (s : JournalStep) → Meets (lone_world slots J) slots J heard s
     → course.Meets (lone_dispatched slots J) (any_answer slots J) J s
 meets_any slots J heard s m = meets-within (lone_dispatched slots J) (course.is_note (lone_note slots heard) J) (any_answer slots J) (within_any slots heard J)
     J s m
 
-pub meets_true : (slots : List Slot) (J : List Entry) (heard : ℕ) (s : Step) → Meets (lone_world slots J) slots J heard s → course.Noted (is_true slots J) s
+pub meets_true : (slots : List Slot) (J : List Entry) (heard : ℕ) (s : JournalStep) → Meets (lone_world slots J) slots J heard s
+    → course.Noted (is_true slots J) s
 meets_true slots J heard s m = noted-within (course.is_note (lone_note slots heard) J) (is_true slots J) (within_true slots heard J) s
     (meets-noted (lone_dispatched slots J) (course.is_note (lone_note slots heard) J) J s m)
 
@@ -174,15 +176,16 @@ legal_nil slots = legal-nil (lone_dispatched slots) (any_answer slots)
 pub true_nil : (slots : List Slot) → IsTrue slots []
 true_nil slots = noted-nil (is_true slots)
 
-pub legal_added : (slots : List Slot) (J : List Entry) (heard : ℕ) (s : Step) → IsLegal slots J → Meets (lone_world slots J) slots J heard s
+pub legal_added : (slots : List Slot) (J : List Entry) (heard : ℕ) (s : JournalStep) → IsLegal slots J → Meets (lone_world slots J) slots J heard s
     → IsLegal slots (added J s)
 legal_added slots J heard s l m = legal-added (lone_dispatched slots) (any_answer slots) J s l (meets_any slots J heard s m)
 
-pub true_added : (slots : List Slot) (J : List Entry) (heard : ℕ) (s : Step) → IsLegal slots J → IsTrue slots J → Meets (lone_world slots J) slots J heard s
+pub true_added : (slots : List Slot) (J : List Entry) (heard : ℕ) (s : JournalStep) → IsLegal slots J → IsTrue slots J
+    → Meets (lone_world slots J) slots J heard s
     → IsTrue slots (added J s)
 true_added slots J heard s l truly m = noted-added (is_true slots) J s l.in_form truly (meets_true slots J heard s m)
 
-pub legal_before : (slots : List Slot) (s : Step) (P : List Step) → IsLegal slots (journal_of (s ∷ P)) → IsLegal slots (journal_of P)
+pub legal_before : (slots : List Slot) (s : JournalStep) (P : List JournalStep) → IsLegal slots (journal_of (s ∷ P)) → IsLegal slots (journal_of P)
 legal_before slots s P l = legal-before (lone_dispatched slots) (any_answer slots) s P l
 
 pub legal_cut : (slots : List Slot) (n : ℕ) (J : List Entry) → IsLegal slots J → IsLegal slots (cut n J)

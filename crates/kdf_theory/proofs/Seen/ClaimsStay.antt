@@ -7,7 +7,7 @@ use Rattle.kdf_journal.specs.declared.kind.Kind.{Kind}
 use Rattle.kdf_processor.specs.declared.step.Need.{Need}
 use Rattle.kdf_processor.specs.declared.step.Need.TheVariants.{Device}
 use Rattle.kdf_transfer.specs.Devices.{is_kind}
-use Rattle.kdf_processor.specs.Claims.{claim, kind_at, taken}
+use Rattle.kdf_processor.specs.Claims.{claim, kind_at, taken_device}
 use Rattle.kdf_processor.specs.Effect.{Question, FreeOf, Effect, Starting, Asking, Claiming, Returning}
 use Rattle.kdf_processor.specs.Frame.{HidesNone}
 use Rattle.kdf_processor.specs.Needs.{effect_needs}
@@ -44,8 +44,8 @@ module _ (hidden : Need → Bool) (mine : List ℕ) (answer : Question → ℕ) 
   claimed_through (Claiming x after) none =
       marked s.stock.claims (set s.stock.claims.claimed x true) d k (set_true s.stock.claims.claimed x d (claim_parts s.stock.claims d k is).1) is
   claimed_through (Asking (FreeOf kind) after) none =
-      marked s.stock.claims (set s.stock.claims.claimed (taken s.stock.claims kind (answer (FreeOf kind))) true) d k
-      (set_true s.stock.claims.claimed (taken s.stock.claims kind (answer (FreeOf kind))) d (claim_parts s.stock.claims d k is).1)
+      marked s.stock.claims (set s.stock.claims.claimed (taken_device s.stock.claims kind (answer (FreeOf kind))) true) d k
+      (set_true s.stock.claims.claimed (taken_device s.stock.claims kind (answer (FreeOf kind))) d (claim_parts s.stock.claims d k is).1)
       is
   claimed_through (Returning true x after) none = returned x (or_parts _ _ none).0
   claimed_through (Returning false x after) none = returned x (or_parts _ _ none).0

@@ -20,7 +20,7 @@ use Rattle.kdf_transfer.specs.ByNumber.{device_count}
 use Rattle.kdf_processor.proofs.FrameLemmas.{perform_leaves}
 use Rattle.kdf_theory.specs.Flights.{Flight, beginning, flights_after, touches, with_flight}
 use Rattle.kdf_theory.specs.Flying.{InFlight, IfFlight, AreFlying}
-use Rattle.kdf_theory.specs.Seen.{pending, touched_below}
+use Rattle.kdf_theory.specs.Seen.{pending_in_flight, touched_below}
 use Rattle.kdf_theory.proofs.Seen.OrdersSeen.{with_flight_is, with_flight_other, parts_apart}
 use Rattle.kdf_theory.proofs.Seen.ClaimsStay.{claimed_through, same_fixture, same_size}
 use Rattle.kdf_theory.proofs.Seen.WholeTransfers.{transferred_claims}
@@ -37,9 +37,9 @@ touched_from (suc n) d g flights lt is =
 -- ---- those that are in flight
 
 module _ (flights : ℕ → Option Flight) (mine : List ℕ) (answer : Question → ℕ) (s : State) (e : Effect)
-    (none : HidesNone (pending flights) (effect_needs mine e)) where
-  leaves : Leaves (pending flights) s (perform answer e s)
-  leaves = perform_leaves (pending flights) mine answer e s none
+    (none : HidesNone (pending_in_flight flights) (effect_needs mine e)) where
+  leaves : Leaves (pending_in_flight flights) s (perform answer e s)
+  leaves = perform_leaves (pending_in_flight flights) mine answer e s none
 
   kept_flight : (d : ℕ) → IfFlight s d (flights d) → IfFlight (perform answer e s) d (flights d)
   kept_flight d flight = go (flights d) refl flight
@@ -49,7 +49,7 @@ module _ (flights : ℕ → Option Flight) (mine : List ℕ) (answer : Question 
       go (Some f) is h =
           let small = claim_small s.stock.claims d (kind_of f.order) h.claimed in
           record {
-            claimed = claimed_through (pending flights) mine answer s d (kind_of f.order) h.claimed (ap is_some is) e none;
+            claimed = claimed_through (pending_in_flight flights) mine answer s d (kind_of f.order) h.claimed (ap is_some is) e none;
             fixture = same_fixture answer e s d ∙ h.fixture;
             size = sym leaves.size ∙ h.size;
             area = λ has. subst (IsArea f.first f.last) leaves.size (h.area has);
@@ -83,7 +83,7 @@ address_of first last g rising low high =
 
 -- no transfer touches a group of an area that is not pending
 free_area : (flights : ℕ → Option Flight) (s : State) (o : TransferOrder) (first last e g : ℕ) → AreFlying flights s
-    → (has_area o ≡ true → IsArea first last s.stock.claims.size) → list_any (pending flights) (map Group (order_groups o first last)) ≡ false
+    → (has_area o ≡ true → IsArea first last s.stock.claims.size) → list_any (pending_in_flight flights) (map Group (order_groups o first last)) ≡ false
     → has_area o && (leb (first / 32) g && leb g (last / 32)) ≡ true → touches (flights e) g ≡ false
 free_area flights s o first last e g flying area none is =
     let parts = and_parts _ _ is in
@@ -91,8 +91,8 @@ free_area flights s o first last e g flying area none is =
     let there = address_of first last g (area parts.0).rising (leb-true (first / 32) g bounds.0) (leb-true g (last / 32) bounds.1) in
     let free : touched_below device_count flights g ≡ false =
     subst (λ h. touched_below device_count flights h ≡ false) there.3
-    (area_apart (pending flights) first last there.0 there.1 there.2
-    (subst (λ b. list_any (pending flights) (map Group (cond b (groups_of first last) [])) ≡ false) parts.0 none)) in
+    (area_apart (pending_in_flight flights) first last there.0 there.1 there.2
+    (subst (λ b. list_any (pending_in_flight flights) (map Group (cond b (groups_of first last) [])) ≡ false) parts.0 none)) in
     false_from_ne_true _ (λ touched. false≢true
     (sym free ∙ touched_from device_count e g flights (touching_small s e g (flights e) (flying.each e) touched) touched))
 
@@ -118,7 +118,8 @@ more_apart flights d f old new x y g ne is =
 
 module _ (flights : ℕ → Option Flight) (mine : List ℕ) (answer : Question → ℕ) (s : State) (flying : AreFlying flights s) where
   also : (d : ℕ) (o : TransferOrder) (first last : ℕ) (after : Registers) → IsChecked s.stock.claims (Starting d o first last after)
-      → HidesNone (pending flights) (effect_needs mine (Starting d o first last after)) → AreFlying (flights_after flights s (Starting d o first last after))
+      → HidesNone (pending_in_flight flights) (effect_needs mine (Starting d o first last after))
+      → AreFlying (flights_after flights s (Starting d o first last after))
       (perform answer (Starting d o first last after) s)
   also d o first last after checked none =
       record {
@@ -144,7 +145,7 @@ module _ (flights : ℕ → Option Flight) (mine : List ℕ) (answer : Question 
       same_claims = transferred_claims d o first last (fixture_at s.stock.claims d) s.stock
 
       size : length later.stock.store ≡ length s.stock.store
-      size = sym (perform_leaves (pending flights) mine answer (Starting d o first last after) s none).size
+      size = sym (perform_leaves (pending_in_flight flights) mine answer (Starting d o first last after) s none).size
 
       this : InFlight later d f
       this =
@@ -158,10 +159,10 @@ module _ (flights : ℕ → Option Flight) (mine : List ℕ) (answer : Question 
             device = refl;
           }
 
-  flying_any : (e : Effect) → IsChecked s.stock.claims e → HidesNone (pending flights) (effect_needs mine e)
+  flying_any : (e : Effect) → IsChecked s.stock.claims e → HidesNone (pending_in_flight flights) (effect_needs mine e)
       → AreFlying (flights_after flights s e) (perform answer e s)
   flying_any (Starting d o first last after) checked none = also d o first last after checked none
   flying_any e checked none = still_flying flights mine answer s e none flying
 
-  pub row_flying : HidesNone (pending flights) (needs s mine) → AreFlying (flights_after flights s (next_effect s)) (row s answer)
+  pub row_flying : HidesNone (pending_in_flight flights) (needs s mine) → AreFlying (flights_after flights s (next_effect s)) (row s answer)
   row_flying none = flying_any (next_effect s) (next_checked s) (parts_apart flights mine s none).1

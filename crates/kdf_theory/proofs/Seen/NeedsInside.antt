@@ -18,7 +18,7 @@ use Rattle.kdf_processor.specs.State.{Claims, State, word_at}
 use Rattle.kdf_processor.specs.Effect.{Change, Refused, Going, of_change, Effect, Failing, Ending, Changing, Fetching, Keeping, Testing, Starting, Asking}
 use Rattle.kdf_processor.specs.Effect.{IsBusy, IsOut, Time, FreeOf, OfService, Claiming, Returning, Spooling}
 use Rattle.kdf_processor.specs.Needs.{count_at, effect_needs, effect_or_liv, fetch_needs, needs, next_effect, order_at, syllable_needs}
-use Rattle.kdf_processor.specs.Table.{is_area, guarded, effect, on}
+use Rattle.kdf_processor.specs.Table.{is_area, guarded, effect, syllable_after}
 use Rattle.kdf_processor.specs.View.{groups_of}
 use Rattle.kdf_processor.proofs.EachEffect.{each_effect}
 
@@ -109,7 +109,8 @@ near_test false x size rest not near = tt
 
 near_syllables : (n size at : ℕ) → AreNear size (syllable_needs n size at)
 near_syllables zero size at = tt
-near_syllables (suc n) size at = near_test (ltb (at / 6) size) (at / 6) size (syllable_needs n size (on at 1)) refl (near_syllables n size (on at 1))
+near_syllables (suc n) size at =
+    near_test (ltb (at / 6) size) (at / 6) size (syllable_needs n size (syllable_after at 1)) refl (near_syllables n size (syllable_after at 1))
 
 near_devices : (size : ℕ) (ds : List ℕ) → AreNear size (map Device ds)
 near_devices size [] = tt

@@ -15,7 +15,7 @@ use Rattle.kdf_processor.specs.State.{State}
 use Rattle.kdf_transfer.specs.ByNumber.{device_count}
 use Rattle.kdf_theory.specs.Flights.{Flight, mine_of, touches}
 use Rattle.kdf_theory.specs.Flying.{IfFlight, AreFlying}
-use Rattle.kdf_theory.specs.Seen.{pending}
+use Rattle.kdf_theory.specs.Seen.{pending_in_flight}
 use Rattle.kdf_theory.proofs.Seen.OrdersSeen.{parts_apart}
 use Rattle.kdf_theory.proofs.Seen.TransfersChecked.{claim_small}
 
@@ -46,7 +46,8 @@ over_apart hidden mine answer (Failing kind) s live over none = none
 over_apart hidden mine answer (Ending after) s live over none = none
 over_apart hidden mine answer e s live over none = absurd (false≢true (sym over ∙ live))
 
-none_flying : (flights : ℕ → Option Flight) (s : State) → AreFlying flights s → list_any (pending flights) (map Device (mine_of flights)) ≡ false → (d : ℕ)
+none_flying : (flights : ℕ → Option Flight) (s : State) → AreFlying flights s → list_any (pending_in_flight flights) (map Device (mine_of flights)) ≡ false
+    → (d : ℕ)
     → flights d ≡ None
 none_flying flights s flying none d = go (flights d) refl (flying.each d)
   where
@@ -54,14 +55,16 @@ none_flying flights s flying none d = go (flights d) refl (flying.each d)
     go None is h = refl
     go (Some f) is h =
         let small : d < device_count = claim_small s.stock.claims d (kind_of f.order) h.claimed in
-        absurd (false≢true (sym (filter_apart (pending flights) (λ x. is_some (flights x)) 0 device_count d (omega arith) (omega arith) (ap is_some is) none)
+        absurd (false≢true (sym (filter_apart (pending_in_flight flights) (λ x. is_some (flights x)) 0 device_count d (omega arith) (omega arith)
+        (ap is_some is) none)
         ∙ ap is_some is))
 
 pub over_row : (flights : ℕ → Option Flight) (answer : Question → ℕ) (s : State) → AreFlying flights s
-    → HidesNone (pending flights) (needs s (mine_of flights)) → is_live s.registers.state ≡ true → is_live (row s answer).registers.state ≡ false → (d : ℕ)
+    → HidesNone (pending_in_flight flights) (needs s (mine_of flights)) → is_live s.registers.state ≡ true → is_live (row s answer).registers.state ≡ false
+    → (d : ℕ)
     → flights d ≡ None
 over_row flights answer s flying none live over =
-    none_flying flights s flying (over_apart (pending flights) (mine_of flights) answer (next_effect s) s live over
+    none_flying flights s flying (over_apart (pending_in_flight flights) (mine_of flights) answer (next_effect s) s live over
     (parts_apart flights (mine_of flights) s none).1)
 
 -- where none is in flight, all of them are

@@ -6,7 +6,7 @@ use Rattle.std.specs.List.{list_any}
 use Rattle.std.proofs.lemmas.Bool.{or_parts, cases_Bool, cases_eq, false_from_ne_true, false≢true, eq-eqb, ne_eqb}
 use Rattle.std.proofs.lemmas.List.Folds.{list_any-append}
 use Rattle.kdf_transfer.specs.AtOnce.{has_area}
-use Rattle.kdf_transfer.specs.Devices.{Progress}
+use Rattle.kdf_transfer.specs.Devices.{DeviceProgress}
 use Rattle.kdf_transfer.specs.declared.order.TransferOrder.{TransferOrder}
 use Rattle.kdf_processor.specs.declared.registers.Registers.{Registers}
 use Rattle.kdf_processor.specs.declared.step.Need.{Need}
@@ -22,7 +22,7 @@ use Rattle.kdf_processor.proofs.FrameLemmas.{perform_leaves, effect_agree}
 use Rattle.kdf_processor.proofs.RowFacts.{transferred_asked}
 use Rattle.kdf_transfer.specs.ByNumber.{device_count}
 use Rattle.kdf_theory.specs.Flights.{Flight, arrivals, beginning, flights_after, with_flight}
-use Rattle.kdf_theory.specs.Seen.{covers, word_before, seen_word, seen_device, seen, touched_below, pending, begun_by, begun_row}
+use Rattle.kdf_theory.specs.Seen.{covers, word_before, seen_word, seen_device, seen, touched_below, pending_in_flight, begun_by, begun_row}
 use Rattle.kdf_theory.proofs.Seen.WholeTransfers.{transferred_claims, transferred_spooled, transferred_stints, completed_other, completed_store}
 use Rattle.kdf_theory.proofs.Seen.WholeTransfers.{arrivals_outside}
 use Rattle.kdf_theory.proofs.Seen.SeenStates.{same_states, seen_word_at, seen_device_at, seen_size, seen_number, covers_touches, seen_apart, seen_agrees}
@@ -89,7 +89,7 @@ order_apart hidden o first last a none has low high =
 
 -- ---- a transfer that begins shows nothing of itself
 module _ (flights : ℕ → Option Flight) (mine : List ℕ) (answer : Question → ℕ) (d : ℕ) (o : TransferOrder) (first last : ℕ) (after : Registers) (s : State)
-    (small : d < device_count) (none : HidesNone (pending flights) (effect_needs mine (Starting d o first last after))) where
+    (small : d < device_count) (none : HidesNone (pending_in_flight flights) (effect_needs mine (Starting d o first last after))) where
   pub begin_seen : begun_by answer (Starting d o first last after) (seen flights s) ≡ seen (flights_after flights s (Starting d o first last after))
       (perform answer (Starting d o first last after) s)
   begin_seen =
@@ -112,7 +112,7 @@ module _ (flights : ℕ → Option Flight) (mine : List ℕ) (answer : Question 
       let inside : x < length later.stock.devices = omega (arith, leaves.number) in
       seen_device_at flights s x within ∙ device x ∙ sym (seen_device_at new later x inside))
     where
-      parts : (pending flights (Device d) ≡ false) × (list_any (pending flights) (map Group (order_groups o first last)) ≡ false)
+      parts : (pending_in_flight flights (Device d) ≡ false) × (list_any (pending_in_flight flights) (map Group (order_groups o first last)) ≡ false)
       parts = or_parts _ _ none
 
       idle : flights d ≡ None
@@ -127,8 +127,8 @@ module _ (flights : ℕ → Option Flight) (mine : List ℕ) (answer : Question 
       later : State
       later = perform answer (Starting d o first last after) s
 
-      leaves : Leaves (pending flights) s later
-      leaves = perform_leaves (pending flights) mine answer (Starting d o first last after) s none
+      leaves : Leaves (pending_in_flight flights) s later
+      leaves = perform_leaves (pending_in_flight flights) mine answer (Starting d o first last after) s none
 
       word : (a : ℕ) → seen_word device_count flights a (word_at s a) ≡ seen_word device_count new a (word_at later a)
       word a =
@@ -136,7 +136,7 @@ module _ (flights : ℕ → Option Flight) (mine : List ℕ) (answer : Question 
           (λ (is : covers d (Some f) a ≡ true).
           let free : touched_below device_count flights (group_of a) ≡ false =
           false_from_ne_true _ (λ locked. false≢true (sym (arrivals_outside d f a
-          (λ has low high. false≢true (sym (order_apart (pending flights) o first last a parts.1 has low high) ∙ locked))) ∙ is)) in
+          (λ has low high. false≢true (sym (order_apart (pending_in_flight flights) o first last a parts.1 has low high) ∙ locked))) ∙ is)) in
           seen_apart device_count flights a (word_at s a) free ∙ sym (seen_word_new device_count d f flights a (word_at later a) small is free))
           (λ (not : covers d (Some f) a ≡ false).
           let unwritten : word_at later a ≡ word_at s a = ap (λ ws. get_or ws a 0) (completed_store d f) ∙ written_apart (arrivals d f) s.stock.store a not in
@@ -155,20 +155,20 @@ module _ (flights : ℕ → Option Flight) (mine : List ℕ) (answer : Question 
 
 -- an effect, whatever it is
 begun_any : (flights : ℕ → Option Flight) (mine : List ℕ) (answer : Question → ℕ) (s : State) (e : Effect) → IsChecked s.stock.claims e
-    → HidesNone (pending flights) (effect_needs mine e) → begun_by answer e (seen flights s) ≡ seen (flights_after flights s e) (perform answer e s)
+    → HidesNone (pending_in_flight flights) (effect_needs mine e) → begun_by answer e (seen flights s) ≡ seen (flights_after flights s e) (perform answer e s)
 begun_any flights mine answer s (Starting d o first last after) checked none =
     begin_seen flights mine answer d o first last after s (claim_small s.stock.claims d _ checked.0) none
 begun_any flights mine answer s e checked none = perform_seen flights mine answer e s none
 
 -- ---- the next order
-module _ (flights : ℕ → Option Flight) (mine : List ℕ) (s : State) (none : HidesNone (pending flights) (needs s mine)) where
-  pub parts_apart : HidesNone (pending flights) (fetch_needs s.stock.claims.size (word_at s) s.registers.at)
-      × HidesNone (pending flights) (effect_needs mine (next_effect s))
-  parts_apart = or_parts _ _ (sym (list_any-append (pending flights) (fetch_needs s.stock.claims.size (word_at s) s.registers.at)
+module _ (flights : ℕ → Option Flight) (mine : List ℕ) (s : State) (none : HidesNone (pending_in_flight flights) (needs s mine)) where
+  pub parts_apart : HidesNone (pending_in_flight flights) (fetch_needs s.stock.claims.size (word_at s) s.registers.at)
+      × HidesNone (pending_in_flight flights) (effect_needs mine (next_effect s))
+  parts_apart = or_parts _ _ (sym (list_any-append (pending_in_flight flights) (fetch_needs s.stock.claims.size (word_at s) s.registers.at)
       (effect_needs mine (next_effect s))) ∙ none)
 
   pub same_next : next_effect s ≡ next_effect (seen flights s)
-  same_next = effect_agree (pending flights) s (seen flights s) (seen_agrees flights s) parts_apart.0
+  same_next = effect_agree (pending_in_flight flights) s (seen flights s) (seen_agrees flights s) parts_apart.0
 
   -- in one step
   pub row_seen : (answer : Question → ℕ) → row (seen flights s) answer ≡ seen flights (row s answer)
@@ -192,7 +192,7 @@ twice_word (suc n) fewer more a w part =
     ap (look n (more n) a) (ap (λ x. seen_word n more a x) (look_apart n (fewer n) a (seen_word n fewer a w) none) ∙ twice_word n fewer more a w part))
     (cases_Bool (covers n (more n) a))
 
-twice_device : (fewer more : Option Flight) (d : ℕ) (p : Progress) → (fewer ≡ None) ⊎ (fewer ≡ more)
+twice_device : (fewer more : Option Flight) (d : ℕ) (p : DeviceProgress) → (fewer ≡ None) ⊎ (fewer ≡ more)
     → seen_device more d (seen_device fewer d p) ≡ seen_device more d p
 twice_device fewer None d p part = ⊎_elim (λ e. ap (λ g. seen_device g d p) e) (λ e. ap (λ g. seen_device g d p) e) part
 twice_device fewer (Some f) d p part = refl
@@ -218,7 +218,7 @@ seen_twice fewer more s part =
     ∙ sym (seen_device_at more s d within))
 
 -- the transfers after an order are those before it, or more
-after_more : (flights : ℕ → Option Flight) (mine : List ℕ) (s : State) (e : Effect) → HidesNone (pending flights) (effect_needs mine e) → (x : ℕ)
+after_more : (flights : ℕ → Option Flight) (mine : List ℕ) (s : State) (e : Effect) → HidesNone (pending_in_flight flights) (effect_needs mine e) → (x : ℕ)
     → (flights x ≡ None) ⊎ (flights x ≡ flights_after flights s e x)
 after_more flights mine s (Starting d o first last after) none x =
     ⊎_elim
@@ -228,7 +228,7 @@ after_more flights mine s (Starting d o first last after) none x =
 after_more flights mine s e none x = inr refl
 
 -- an order in one step, of which is seen what the transfers after it leave to be seen
-pub hidden_seen : (flights : ℕ → Option Flight) (mine : List ℕ) (answer : Question → ℕ) (s : State) → HidesNone (pending flights) (needs s mine)
+pub hidden_seen : (flights : ℕ → Option Flight) (mine : List ℕ) (answer : Question → ℕ) (s : State) → HidesNone (pending_in_flight flights) (needs s mine)
     → seen (flights_after flights s (next_effect s)) (row (seen flights s) answer) ≡ seen (flights_after flights s (next_effect s)) (row s answer)
 hidden_seen flights mine answer s none =
     ap (seen (flights_after flights s (next_effect s))) (row_seen flights mine s none answer)

@@ -5,7 +5,7 @@ use Rattle.std.specs.List.{list_any}
 use Rattle.std.proofs.lemmas.Bool.{or_parts, and_from, cases_Bool, cases_lt, false≢true, le-leb}
 use Rattle.std.proofs.lemmas.List.{ext_get_or, get_or_past}
 use Rattle.std.proofs.lemmas.List.FromFn.{length-map-range_with_len, get_or-map-range_with_len}
-use Rattle.kdf_transfer.specs.Devices.{Progress, new_progress}
+use Rattle.kdf_transfer.specs.Devices.{DeviceProgress, new_progress}
 use Rattle.kdf_processor.specs.declared.step.Need.TheVariants.{Group, Device}
 use Rattle.kdf_processor.specs.Effect.{Question, Effect}
 use Rattle.kdf_processor.specs.Frame.{Agrees, Leaves, HidesNone}
@@ -15,7 +15,7 @@ use Rattle.kdf_processor.specs.State.{State, word_at, device_at}
 use Rattle.kdf_processor.proofs.FrameLemmas.{perform_agree, perform_leaves}
 use Rattle.kdf_transfer.specs.ByNumber.{device_count}
 use Rattle.kdf_theory.specs.Flights.{Flight, touches}
-use Rattle.kdf_theory.specs.Seen.{covers, word_before, seen_word, seen_device, seen, touched_below, pending}
+use Rattle.kdf_theory.specs.Seen.{covers, word_before, seen_word, seen_device, seen, touched_below, pending_in_flight}
 use Rattle.kdf_theory.proofs.Seen.WholeTransfers.{arrivals_outside}
 
 -- ---- states
@@ -83,12 +83,12 @@ seen_apart (suc n) flights a w free =
     let parts = or_parts _ _ free in
     rw (covers_touches n (flights n) a parts.0) (seen_apart n flights a w parts.1)
 
-idle_device : (f : Option Flight) (d : ℕ) (p : Progress) → is_some f ≡ false → seen_device f d p ≡ p
+idle_device : (f : Option Flight) (d : ℕ) (p : DeviceProgress) → is_some f ≡ false → seen_device f d p ≡ p
 idle_device None d p free = refl
 idle_device (Some f) d p free = cc
 
 -- what is seen agrees with the lone state in all but what is pending
-pub seen_agrees : (flights : ℕ → Option Flight) (s : State) → Agrees (pending flights) s (seen flights s)
+pub seen_agrees : (flights : ℕ → Option Flight) (s : State) → Agrees (pending_in_flight flights) s (seen flights s)
 seen_agrees flights s =
     record {
       registers = refl;
@@ -129,7 +129,7 @@ seen_nothing flights s none =
 
 -- an effect whose needs are not pending does the same to what is seen as to the lone state
 module _ (flights : ℕ → Option Flight) (mine : List ℕ) (answer : Question → ℕ) (e : Effect) (s : State)
-    (none : HidesNone (pending flights) (effect_needs mine e)) where
+    (none : HidesNone (pending_in_flight flights) (effect_needs mine e)) where
   pub perform_seen : perform answer e (seen flights s) ≡ seen flights (perform answer e s)
   perform_seen =
       same_states _ _ (record {
@@ -145,14 +145,14 @@ module _ (flights : ℕ → Option Flight) (mine : List ℕ) (answer : Question 
       word
       device
     where
-      agree : Agrees (pending flights) (perform answer e s) (perform answer e (seen flights s))
-      agree = perform_agree (pending flights) mine answer e s (seen flights s) (seen_agrees flights s) none
+      agree : Agrees (pending_in_flight flights) (perform answer e s) (perform answer e (seen flights s))
+      agree = perform_agree (pending_in_flight flights) mine answer e s (seen flights s) (seen_agrees flights s) none
 
-      leaves : Leaves (pending flights) s (perform answer e s)
-      leaves = perform_leaves (pending flights) mine answer e s none
+      leaves : Leaves (pending_in_flight flights) s (perform answer e s)
+      leaves = perform_leaves (pending_in_flight flights) mine answer e s none
 
-      beside : Leaves (pending flights) (seen flights s) (perform answer e (seen flights s))
-      beside = perform_leaves (pending flights) mine answer e (seen flights s) none
+      beside : Leaves (pending_in_flight flights) (seen flights s) (perform answer e (seen flights s))
+      beside = perform_leaves (pending_in_flight flights) mine answer e (seen flights s) none
 
       word : (a : ℕ) → a < length (perform answer e (seen flights s)).stock.store
           → word_at (perform answer e (seen flights s)) a ≡ word_at (seen flights (perform answer e s)) a
@@ -160,13 +160,13 @@ module _ (flights : ℕ → Option Flight) (mine : List ℕ) (answer : Question 
           let inside : a < length (perform answer e s).stock.store = omega (arith, agree.size) in
           let within : a < length s.stock.store = omega (arith, leaves.size) in
           ⊎_elim
-          (λ (locked : pending flights (Group (group_of a)) ≡ true).
+          (λ (locked : pending_in_flight flights (Group (group_of a)) ≡ true).
           beside.words a locked ∙ seen_word_at flights s a within ∙ sym (ap (seen_word device_count flights a) (leaves.words a locked))
           ∙ sym (seen_word_at flights (perform answer e s) a inside))
-          (λ (free : pending flights (Group (group_of a)) ≡ false).
+          (λ (free : pending_in_flight flights (Group (group_of a)) ≡ false).
           sym (agree.words a free) ∙ sym (seen_word_at flights (perform answer e s) a inside
           ∙ seen_apart device_count flights a (word_at (perform answer e s) a) free))
-          (cases_Bool (pending flights (Group (group_of a))))
+          (cases_Bool (pending_in_flight flights (Group (group_of a))))
 
       device : (d : ℕ) → d < length (perform answer e (seen flights s)).stock.devices
           → device_at (perform answer e (seen flights s)) d ≡ device_at (seen flights (perform answer e s)) d
@@ -174,10 +174,10 @@ module _ (flights : ℕ → Option Flight) (mine : List ℕ) (answer : Question 
           let inside : d < length (perform answer e s).stock.devices = omega (arith, agree.number) in
           let within : d < length s.stock.devices = omega (arith, leaves.number) in
           ⊎_elim
-          (λ (locked : pending flights (Device d) ≡ true).
+          (λ (locked : pending_in_flight flights (Device d) ≡ true).
           beside.devices d locked ∙ seen_device_at flights s d within ∙ sym (ap (seen_device (flights d) d) (leaves.devices d locked))
           ∙ sym (seen_device_at flights (perform answer e s) d inside))
-          (λ (free : pending flights (Device d) ≡ false).
+          (λ (free : pending_in_flight flights (Device d) ≡ false).
           sym (agree.devices d free) ∙ sym (seen_device_at flights (perform answer e s) d inside
           ∙ idle_device (flights d) d (device_at (perform answer e s) d) free))
-          (cases_Bool (pending flights (Device d)))
+          (cases_Bool (pending_in_flight flights (Device d)))

@@ -5,7 +5,7 @@ use Rattle.std.specs.List.{list_any}
 use Rattle.std.proofs.lemmas.Bool.{cases_eq, false≢true}
 use Rattle.std.proofs.lemmas.List.{get_or-set_same, get_or-set_other, length-set, drop_all, take_all, length-drop}
 use Rattle.kdf_transfer.specs.AtOnce.{written}
-use Rattle.kdf_transfer.specs.Devices.{Progress, new_progress}
+use Rattle.kdf_transfer.specs.Devices.{DeviceProgress, new_progress}
 use Rattle.kdf_processor.specs.State.{State, word_at, device_at, device_in}
 use Rattle.kdf_transfer.specs.ByNumber.{device_count}
 use Rattle.kdf_theory.specs.Flights.{Flight, move_count, arrivals, unmoved, completed, touches, with_flight, moved_to, with_moved}
@@ -16,7 +16,7 @@ use Rattle.kdf_theory.proofs.Seen.OrdersSeen.{with_flight_is, with_flight_other,
 use Rattle.kdf_theory.proofs.Seen.WordsMove.{few_arrivals, moves_seen}
 
 -- a state with other devices
-abbrev with_devices : State → List Progress → State
+abbrev with_devices : State → List DeviceProgress → State
 with_devices s devices = record s { stock = record s.stock { devices = devices } }
 
 -- a transfer of which all words have moved gives its device its new state when it ends, and nothing else

@@ -6,7 +6,7 @@ use Rattle.std.proofs.lemmas.Bool.{cases_Bool, cases_lt, and_from, le-leb, ne_eq
 use Rattle.std.proofs.lemmas.List.{get_or-set_other, length-take}
 use Rattle.kdf_transfer.specs.AtOnce.{is_input, is_output, is_backward, has_area, given, offered, moved_words, at_addresses, down_addresses, moves, written}
 use Rattle.kdf_transfer.specs.AtOnce.{order_words}
-use Rattle.kdf_transfer.specs.Devices.{Fixture, Progress, new_progress}
+use Rattle.kdf_transfer.specs.Devices.{Fixture, DeviceProgress, new_progress}
 use Rattle.kdf_transfer.specs.declared.order.TransferOrder.{TransferOrder}
 use Rattle.kdf_transfer.proofs.Areas.{input_has}
 use Rattle.kdf_transfer.proofs.Stopping.{stopped-le}
@@ -146,7 +146,7 @@ distinct_down from [] fits = tt
 distinct_down from (w ∷ ws) fits = (down_none from ws (omega arith), distinct_down (from - 1) ws (omega arith))
 
 -- an input order moves no more words than the area has
-few_moved : (o : TransferOrder) (first last : ℕ) (words : List ℕ) (f : Fixture) (p : Progress) → is_input o ≡ true
+few_moved : (o : TransferOrder) (first last : ℕ) (words : List ℕ) (f : Fixture) (p : DeviceProgress) → is_input o ≡ true
     → length (moved_words o first last words f p) ≤ last + 1 - first
 unfolding offered
 few_moved o first last words f p is =
@@ -154,7 +154,7 @@ few_moved o first last words f p is =
     ap (λ b. cond b (take (last + 1 - first) (given o f p)) (cond (is_output o) words [])) is in
     omega (arith, stopped-le o (offered o first last words f p), ap length offer, length-take (last + 1 - first) (given o f p))
 
-distinct_moves : (o : TransferOrder) (first last : ℕ) (words : List ℕ) (f : Fixture) (p : Progress) → is_input o ≡ true
+distinct_moves : (o : TransferOrder) (first last : ℕ) (words : List ℕ) (f : Fixture) (p : DeviceProgress) → is_input o ≡ true
     → AreDistinct (moves o first last words f p)
 distinct_moves o first last words f p is = at (is_backward o)
   where

@@ -6,7 +6,7 @@ use Rattle.std.specs.List.{list_any}
 use Rattle.std.proofs.lemmas.Bool.{or_right, cases_Bool, cases_eq, cases_lt, eq-eqb, ne_eqb}
 use Rattle.std.proofs.lemmas.List.{get_or-set_same, get_or-set_other, length-set, drop_more, drop_all, take_all}
 use Rattle.kdf_transfer.specs.AtOnce.{is_input, written}
-use Rattle.kdf_transfer.specs.Devices.{Progress}
+use Rattle.kdf_transfer.specs.Devices.{DeviceProgress}
 use Rattle.kdf_processor.specs.Needs.{group_of}
 use Rattle.kdf_processor.specs.State.{State, word_at, device_at}
 use Rattle.kdf_processor.proofs.AreaLemmas.{written_apart}
@@ -220,7 +220,7 @@ arrivals_seen (suc n) flights s d f this flying le =
 
 -- transfers that show the same
 pub seen_alike : (fs gs : ℕ → Option Flight) (s : State) → ((a d x : ℕ) → look d (fs d) a x ≡ look d (gs d) a x)
-    → ((d : ℕ) (p : Progress) → seen_device (fs d) d p ≡ seen_device (gs d) d p) → seen fs s ≡ seen gs s
+    → ((d : ℕ) (p : DeviceProgress) → seen_device (fs d) d p ≡ seen_device (gs d) d p) → seen fs s ≡ seen gs s
 seen_alike fs gs s words devices =
     same_states _ _ (record { registers = refl; claims = refl; spooled = refl; asked = refl; stints = refl })
     (seen_size fs s ∙ sym (seen_size gs s))

@@ -16,7 +16,7 @@ use Rattle.kdf_yard.specs.declared.program.Program.{Program}
 use Rattle.kdf_yard.specs.declared.slot.Loaded.{Loaded}
 use Rattle.kdf_job.specs.Slots.{fixture_on, lent_kind, numbered, progress_on}
 use Rattle.kdf_journal.specs.declared.kind.Kind.{Kind}
-use Rattle.kdf_theory.specs.Loading.{AreLoads, IsLoad, SlotLoad, has, lends, numbers_in, owns, slot_of}
+use Rattle.kdf_theory.specs.Loading.{AreLoads, IsLoad, SlotLoad, has, lends, numbers_in, owns, loaded_slot}
 use Rattle.kdf_yard.specs.Fields.Begun.{IsLoaded}
 use Rattle.kdf_yard.specs.Fields.Filled.{first_seat, idle_spot, loaded, pool_in, pool_spot, sizes_of, with_images, zero_cells}
 use Rattle.kdf_yard.specs.Fields.Parts.{Part, Reach, Seat, borrower, has_device, in_pool, pool_kind, own_fixture, own_progress, own_stock, part_in}
@@ -428,7 +428,7 @@ module _ (xs : List SlotLoad) (are : AreLoads xs) (windows : List Window) (windo
             ∙ ap (λ n. length l.words + n) (length-replicate (l.size - length l.words) 0)
             ∙ (let c = (each i lt).fits in let e : length l.words + (l.size - length l.words) ≡ l.size = omega arith in e)
 
-    stock_is : own_stock q 0 s ≡ (begin (slot_of l)).stock
+    stock_is : own_stock q 0 s ≡ (begin (loaded_slot l)).stock
     stock_is = λ k. record {
       claims = record { size = size_same k; claimed = unclaimed; fixtures = fixtures_are k; pool = by_number (lent_kind l.pool); served = l.served };
       spooled = [];
@@ -438,7 +438,7 @@ module _ (xs : List SlotLoad) (are : AreLoads xs) (windows : List Window) (windo
       devices = progresses_are k;
     }
 
-    pub own_is : own_state reaches seats s 0 i ≡ begin (slot_of l)
+    pub own_is : own_state reaches seats s 0 i ≡ begin (loaded_slot l)
     unfolding own_state
     own_is =
         ap₂ (λ (a : Seat) (r : Part). (let x : State = record { registers = a.registers; stock = own_stock r 0 s } in x)) (seat_is i lt) (part_is i lt)
@@ -497,7 +497,7 @@ module _ (windows : List Window) (slots : List Loaded) (store : Cells) (programs
   is_loaded =
       record {
         loads_are = are;
-        slots_are = sym (map_twice slot_of loaded slots);
+        slots_are = sym (map_twice loaded_slot loaded slots);
         can_be_loaded = are_slots loads are;
         programs_are = programs_are;
         no_hold = none_held ∙ sym (map_twice (λ (l : SlotLoad). None) loaded slots);
@@ -505,7 +505,7 @@ module _ (windows : List Window) (slots : List Loaded) (store : Cells) (programs
         starts = λ i l lt.
             ap₂ (λ r t. own_state r t (shared_in store places) 0 i) (reaches_same windows slots) programs_are
             ∙ own_is loads are windows windows_are inside before store store_is (map spot_of places) spots_are i lt
-            ∙ ap (λ x. begin (slot_of x)) (get_or_default loads i no_load l lt);
+            ∙ ap (λ x. begin (loaded_slot x)) (get_or_default loads i no_load l lt);
         idle = idle_is loads are windows windows_are inside before store store_is (map spot_of places) spots_are;
         unlent = λ d. ap (λ t. borrower t d) programs_are ∙ first_nobodys loads d;
       }

@@ -7,7 +7,7 @@ use Rattle.std.proofs.lemmas.Bool.{and_from, and_parts, lt-ltb, or_parts}
 use Rattle.kdf_journal.specs.declared.kind.Kind.{Kind}
 use Rattle.kdf_journal.specs.declared.kind.Kind.TheVariants as kind
 use Rattle.kdf_transfer.specs.ByNumber.{by_number}
-use Rattle.kdf_transfer.specs.Devices.{Fixture, Progress, blank_fixture, is_kind, kind_in}
+use Rattle.kdf_transfer.specs.Devices.{Fixture, DeviceProgress, blank_fixture, is_kind, kind_in}
 use Rattle.kdf_transfer.proofs.Numbers.{limit_is, number_at}
 use Rattle.kdf_transfer.proofs.OfKind.{exact}
 use Rattle.kdf_job.specs.Slots.{lent_kind}
@@ -110,7 +110,7 @@ pub not_busy : {X : Type 0} (o : Option X) → is_some o ≡ false → o ≡ Non
 not_busy None is = refl
 not_busy (Some x) is = cc
 
-pub back_is : (x : Spot) (f : Fixture) (p : Progress) → can_leave x ≡ true → Some f ≡ cond (can_leave x) x.fixture None → p ≡ x.progress
+pub back_is : (x : Spot) (f : Fixture) (p : DeviceProgress) → can_leave x ≡ true → Some f ≡ cond (can_leave x) x.fixture None → p ≡ x.progress
     → Back f p ≡ back_from x
 back_is x f p leaves is same =
     ap₂ Back (ap fixture_or (is ∙ ap (λ b. cond b x.fixture None) leaves)) same

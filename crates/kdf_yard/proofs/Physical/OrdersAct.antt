@@ -6,7 +6,7 @@ use Rattle.std.proofs.lemmas.Bool.{cases_Bool, cases_eq, eq-eqb, ne_eqb}
 use Rattle.std.proofs.lemmas.List.{get_or-set_same, get_or-set_other}
 use Rattle.kdf_lockout.specs.Groups.{Cells, group_at, is_out, with_word, without_groups, lent_groups, words_in}
 use Rattle.kdf_transfer.specs.declared.order.TransferOrder.{TransferOrder}
-use Rattle.kdf_transfer.specs.Devices.{Fixture, Progress}
+use Rattle.kdf_transfer.specs.Devices.{Fixture, DeviceProgress}
 use Rattle.kdf_transfer.specs.AtOnce.{has_area}
 use Rattle.kdf_theory.specs.Seen.{begun}
 use Rattle.kdf_places.specs.Words.{own_words, with_lease}
@@ -26,7 +26,7 @@ use Rattle.kdf_yard.specs.Fields.Shared.{after_act}
 use Rattle.kdf_places.proofs.GroupsKept.{leases-set, here_apart, free_here}
 
 -- a stock by its parts
-abbrev pub stock : Part → Claims → ℕ → List ℕ → List Progress → Stock
+abbrev pub stock : Part → Claims → ℕ → List ℕ → List DeviceProgress → Stock
 stock q c n ws ds = record { claims = c; spooled = q.spooled; asked = n; stints = map stint_of q.stints; store = ws; devices = ds }
 
 abbrev pub claims : Part → List (Option Fixture) → Claims
@@ -80,7 +80,7 @@ fixtures-set r spots d x lt same =
     (cases_eq e d))
 
 -- how far the device of a place has come
-abbrev pub progress_in : Part → ℕ → Spot → Progress
+abbrev pub progress_in : Part → ℕ → Spot → DeviceProgress
 progress_in r d x = cond (has_device r d) x.progress (left_in r.stints d)
 
 pub progress-same : (r : Part) (d : ℕ) (x y : Spot) → (has_device r d ≡ true → x.progress ≡ y.progress) → progress_in r d x ≡ progress_in r d y

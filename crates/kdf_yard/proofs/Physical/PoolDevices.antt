@@ -10,12 +10,12 @@ use Rattle.std.proofs.lemmas.List.Elements.{All-map, All-push}
 use Rattle.kdf_journal.specs.declared.kind.Kind.{Kind}
 use Rattle.kdf_lockout.specs.Groups.{Cells}
 use Rattle.kdf_transfer.specs.ByNumber.{device_count, by_number}
-use Rattle.kdf_transfer.specs.Devices.{Fixture, Progress, blank_fixture, new_progress}
+use Rattle.kdf_transfer.specs.Devices.{Fixture, DeviceProgress, blank_fixture, new_progress}
 use Rattle.kdf_transfer.proofs.Numbers.{length-numbers, limit_is, number_at}
 use Rattle.kdf_processor.specs.declared.spooled.Spooled.{Spooled}
 use Rattle.kdf_processor.specs.Effect.{Releases}
 use Rattle.kdf_processor.specs.Row.{handed, taking}
-use Rattle.kdf_processor.specs.State.{Stint, Stock}
+use Rattle.kdf_processor.specs.State.{StintState, Stock}
 use Rattle.kdf_yard.specs.Fields.Keeping.{IsActive, IsKept}
 use Rattle.kdf_yard.specs.Fields.Parts.{Part, back_from, has_device, in_pool, own_claims, own_fixture, own_progress, own_stock, pool_kind}
 use Rattle.kdf_theory.specs.Loading.{owns}
@@ -198,7 +198,7 @@ module _ (q : Part) (s : Shared) (t : ℕ) (kept : IsKept q s) (free : IsFree q 
     taken_own active n =
         ap₂ (λ xs ps. parted xs (by_number ps)) (map_push stint_of q.stints (record { device = t; loan = Lent })) (taken_progress active)
       where
-        parted : List Stint → List Progress → Stock
+        parted : List StintState → List DeviceProgress → Stock
         parted xs ps = record {
           claims = record {
             size = q.size;
@@ -357,7 +357,7 @@ module _ (q : Part) (s : Shared) (d : ℕ) (sound : IsSound s) (kept : IsKept q 
       ∙ ap (λ p. map (handed d p) (map stint_of q.stints)) (sym (own_device q n s d gone_small has_it)))
       (gone_progress active)
     where
-      parted : List (Option Fixture) → List Stint → List ℕ → List Progress → Stock
+      parted : List (Option Fixture) → List StintState → List ℕ → List DeviceProgress → Stock
       parted fs xs ws ps = record {
         claims = record { size = q.size; claimed = set q.claimed d false; fixtures = fs; pool = q.pool; served = q.served };
         spooled = q.spooled;
@@ -390,7 +390,7 @@ module _ (q : Part) (s : Shared) (d : ℕ) (sound : IsSound s) (kept : IsKept q 
       (stints_left q.stints d (fixture_or x.fixture) x.progress)
       left_progress
     where
-      parted : List (Option Fixture) → List Stint → List ℕ → List Progress → Stock
+      parted : List (Option Fixture) → List StintState → List ℕ → List DeviceProgress → Stock
       parted fs xs ws ps = record { claims = claims q fs; spooled = q.spooled; asked = n; stints = xs; store = ws; devices = ps }
 
   -- and to another program, whose it isn't

@@ -8,9 +8,9 @@ use Rattle.std.proofs.lemmas.List.{ext_get_or, get_or-map, get_or-set_other, get
 use Rattle.std.proofs.lemmas.List.Elements.{All-cons, All-head, All-map, All-nil, All-tail}
 use Rattle.std.proofs.lemmas.List.Folds.{list_any-append, list_any_none}
 use Rattle.std.proofs.lemmas.List.Quantifiers.{all_pairs_push}
-use Rattle.kdf_transfer.specs.Devices.{Fixture, Progress, new_progress}
+use Rattle.kdf_transfer.specs.Devices.{Fixture, DeviceProgress, new_progress}
 use Rattle.kdf_processor.specs.Row.{handed}
-use Rattle.kdf_processor.specs.State.{Stint}
+use Rattle.kdf_processor.specs.State.{StintState}
 use Rattle.kdf_yard.specs.Fields.Stints.{Keeping, Loan, Lent, Left, Back, is_left, is_lent, is_open, is_open_of, left_in, lends, progress_left, stint_of}
 use Rattle.kdf_yard.specs.Fields.Stints.{with_loan}
 
@@ -61,7 +61,8 @@ none_kept (x ∷ xs) d none =
     ∙ none_kept xs d (All-tail IsNotLeft x xs none)
 
 -- the device that it keeps
-pub left_here : (xs : List Keeping) (d : ℕ) (f : Fixture) (p : Progress) → list_any (is_open_of d) xs ≡ true → left_in (map (with_loan d (Left f p)) xs) d ≡ p
+pub left_here : (xs : List Keeping) (d : ℕ) (f : Fixture) (p : DeviceProgress) → list_any (is_open_of d) xs ≡ true
+    → left_in (map (with_loan d (Left f p)) xs) d ≡ p
 left_here [] d f p is = cc
 left_here (x ∷ xs) d f p is = of (is_open_of d x) refl (left_here xs d f p)
   where
@@ -146,22 +147,23 @@ lends_open (x ∷ xs) d is = of (eqb x.device d) x.loan (lends xs d) is (λ rest
 
 -- ---- the stints, as the program's state has them
 
-pub stints_back : (xs : List Keeping) (d : ℕ) (f : Fixture) (p : Progress) → map stint_of (map (with_loan d (Back f p)) xs) ≡ map (handed d p) (map stint_of xs)
+pub stints_back : (xs : List Keeping) (d : ℕ) (f : Fixture) (p : DeviceProgress)
+    → map stint_of (map (with_loan d (Back f p)) xs) ≡ map (handed d p) (map stint_of xs)
 stints_back [] d f p = refl
 stints_back (x ∷ xs) d f p =
-    ap₂ (λ (y : Stint) ys. y ∷ ys) (of (eqb x.device d) x.loan) (stints_back xs d f p)
+    ap₂ (λ (y : StintState) ys. y ∷ ys) (of (eqb x.device d) x.loan) (stints_back xs d f p)
   where
     of : (b : Bool) (l : Loan) → stint_of (cond (b && is_open l) (record { device = x.device; loan = Back f p }) (record { device = x.device; loan = l }))
-        ≡ (let y : Stint = stint_of (record { device = x.device; loan = l }) in cond (b && not (is_some y.left)) (record y { left = Some p }) y)
+        ≡ (let y : StintState = stint_of (record { device = x.device; loan = l }) in cond (b && not (is_some y.left)) (record y { left = Some p }) y)
     of true Lent = refl
     of true (Left g q) = refl
     of true (Back g q) = refl
     of false l = refl
 
-pub stints_left : (xs : List Keeping) (d : ℕ) (f : Fixture) (p : Progress) → map stint_of (map (with_loan d (Left f p)) xs) ≡ map stint_of xs
+pub stints_left : (xs : List Keeping) (d : ℕ) (f : Fixture) (p : DeviceProgress) → map stint_of (map (with_loan d (Left f p)) xs) ≡ map stint_of xs
 stints_left [] d f p = refl
 stints_left (x ∷ xs) d f p =
-    ap₂ (λ (y : Stint) ys. y ∷ ys) (of (eqb x.device d) x.loan) (stints_left xs d f p)
+    ap₂ (λ (y : StintState) ys. y ∷ ys) (of (eqb x.device d) x.loan) (stints_left xs d f p)
   where
     of : (b : Bool) (l : Loan) → stint_of (cond (b && is_open l) (record { device = x.device; loan = Left f p }) (record { device = x.device; loan = l }))
         ≡ stint_of (record { device = x.device; loan = l })

@@ -9,7 +9,7 @@ use Rattle.kdf_journal.specs.declared.kind.Kind.TheVariants.{Tp}
 use Rattle.std.specs.Prelude.{find, slice_get, unwrap_or, IfSome}
 use Rattle.std.proofs.lemmas.List.{length-map}
 use Rattle.std.proofs.lemmas.Option.{slice_get-get_or, slice_get-map, slice_get_past}
-use Rattle.kdf_transfer.specs.Devices.{Fixture, Progress, blank_fixture, fixture_of, new_progress, progress_of}
+use Rattle.kdf_transfer.specs.Devices.{Fixture, DeviceProgress, blank_fixture, fixture_of, new_progress, progress_of}
 use Rattle.kdf_transfer.specs.declared.device.Device.{Device}
 use Rattle.kdf_processor.specs.State.{device_in, lending_of, lendings}
 use Rattle.kdf_processor.specs.Stints.{IsStint}
@@ -38,7 +38,7 @@ open_lent (Left f p) is = cc
 open_lent (Back f p) is = cc
 
 -- what a program has kept of a device is what its one stint has that wasn't given back
-left_at : (xs : List Keeping) → AllPairs AreApart xs → (i : ℕ) (f : Fixture) (p : Progress) → i < length xs → (get_or xs i no_keeping).loan ≡ Left f p
+left_at : (xs : List Keeping) → AllPairs AreApart xs → (i : ℕ) (f : Fixture) (p : DeviceProgress) → i < length xs → (get_or xs i no_keeping).loan ≡ Left f p
     → left_in xs (get_or xs i no_keeping).device ≡ p
 left_at [] apart i f p lt is = absurd (omega arith)
 left_at (x ∷ xs) apart zero f p lt is =
@@ -138,7 +138,7 @@ module _ (q : Part) (n : ℕ) (s : Shared) (kept : IsKept q s) (i : ℕ) (lt : i
   in_place lent = ap (λ b. cond b (spot_at s.spots x.device).progress (left_in q.stints x.device))
       (or_right (owns q.devices x.device) (lends q.stints x.device) (lent_at q.stints i lt lent))
 
-  kept_back : (f : Fixture) (p : Progress) → x.loan ≡ Left f p → own_progress q s.spots x.device ≡ p
+  kept_back : (f : Fixture) (p : DeviceProgress) → x.loan ≡ Left f p → own_progress q s.spots x.device ≡ p
   kept_back f p is =
       ap (λ b. cond b (spot_at s.spots x.device).progress (left_in q.stints x.device)) (ap (λ b. b || lends q.stints x.device) not_own
       ∙ not_lent q.stints kept.one i lt (ap is_left is))
@@ -152,7 +152,8 @@ module _ (q : Part) (n : ℕ) (s : Shared) (kept : IsKept q s) (i : ℕ) (lt : i
   of_kind (Back g p) is f fits told = let e : Some g ≡ Some (blank_fixture kind.0) = sym fits ∙ ap (option_map blank_fixture) kind.1 in let h : g
       ≡ blank_fixture kind.0 = cc in sym told ∙ h
 
-  by_loan : (l : Loan) → x.loan ≡ l → (p : Progress) → progress_told l (spot_at s.spots x.device) ≡ p → p ≡ (lending_of (own_stock q n s) (stint_of x)).progress
+  by_loan : (l : Loan) → x.loan ≡ l → (p : DeviceProgress) → progress_told l (spot_at s.spots x.device) ≡ p
+      → p ≡ (lending_of (own_stock q n s) (stint_of x)).progress
   by_loan Lent is p told =
       sym told
       ∙ sym (in_place (ap is_lent is)) ∙ sym device_is

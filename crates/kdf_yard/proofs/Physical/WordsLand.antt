@@ -7,7 +7,7 @@ use Rattle.std.proofs.lemmas.Bool.{cases_Bool, cases_eq, and_from, le-leb, lt-lt
 use Rattle.std.proofs.lemmas.List.{length-set}
 use Rattle.kdf_lockout.specs.Groups.{Lent, with_lent_word, AreFull}
 use Rattle.kdf_transfer.specs.AtOnce.{is_input, has_area, addressed}
-use Rattle.kdf_transfer.specs.InFlight.{Motion, Covers, words_of, moves_of, put_words, lease_by, moved_by}
+use Rattle.kdf_transfer.specs.InFlight.{Motion, Covers, words_in_flight, moves_of, put_words, lease_by, moved_by}
 use Rattle.kdf_transfer.proofs.Areas.{input_has}
 use Rattle.kdf_transfer.proofs.Words.{few_words}
 use Rattle.kdf_places.specs.Words.{own_words, has_group, with_lease}
@@ -70,7 +70,7 @@ module _ (s : Shared) (q : Part) (d : ℕ) (h : Held) (n : ℕ) (sound : IsSound
   x = spot_at s.spots d
 
   abbrev moves : List (ℕ × ℕ)
-  moves = take n (drop t.moved (addressed t.order (t.first - q.base) (t.last - q.base) (words_of t)))
+  moves = take n (drop t.moved (addressed t.order (t.first - q.base) (t.last - q.base) (words_in_flight t)))
 
   inside : d < length s.spots
   inside = let e = sound.spots in omega arith
@@ -85,7 +85,7 @@ module _ (s : Shared) (q : Part) (d : ℕ) (h : Held) (n : ℕ) (sound : IsSound
   pub leases_later : leases_of (after_move d n s).spots ≡ with_lease d (lease_by n t) (leases_of s.spots)
   leases_later = leases-set s.spots d (moved_spot n x) inside ∙ ap (λ l. with_lease d l (leases_of s.spots)) lease_then
 
-  few : length (words_of t) ≤ t.last + 1 - t.first
+  few : length (words_in_flight t) ≤ t.last + 1 - t.first
   few = few_words t.order t.first t.last t.lease t.fixture t.progress
 
   -- the moves, as they are in the store
@@ -96,21 +96,21 @@ module _ (s : Shared) (q : Part) (d : ℕ) (h : Held) (n : ℕ) (sound : IsSound
       let low = is_of.low has in
       let f : q.base + (t.first - q.base) ≡ t.first = omega arith in
       let l : q.base + (t.last - q.base) ≡ t.last = omega arith in
-      let enough : length (words_of t) ≤ t.last - q.base + 1 = omega (arith, few) in
-      ap₂ (λ a b. take n (drop t.moved (addressed t.order a b (words_of t)))) (sym f) (sym l)
-      ∙ ap (λ ms. take n (drop t.moved ms)) (shift-addressed t.order q.base (t.first - q.base) (t.last - q.base) (words_of t) enough)
-      ∙ ap (take n) (shift-drop q.base t.moved (addressed t.order (t.first - q.base) (t.last - q.base) (words_of t)))
-      ∙ shift-take q.base n (drop t.moved (addressed t.order (t.first - q.base) (t.last - q.base) (words_of t)))
+      let enough : length (words_in_flight t) ≤ t.last - q.base + 1 = omega (arith, few) in
+      ap₂ (λ a b. take n (drop t.moved (addressed t.order a b (words_in_flight t)))) (sym f) (sym l)
+      ∙ ap (λ ms. take n (drop t.moved ms)) (shift-addressed t.order q.base (t.first - q.base) (t.last - q.base) (words_in_flight t) enough)
+      ∙ ap (take n) (shift-drop q.base t.moved (addressed t.order (t.first - q.base) (t.last - q.base) (words_in_flight t)))
+      ∙ shift-take q.base n (drop t.moved (addressed t.order (t.first - q.base) (t.last - q.base) (words_in_flight t)))
 
   moves_within : has_area t.order ≡ true → AreWithin (t.first - q.base) (t.last - q.base) moves
   moves_within has =
       let covers = is_of.covers has in
       let rising = covers.rising in
       let low = is_of.low has in
-      let enough : length (words_of t) ≤ t.last - q.base + 1 - (t.first - q.base) = omega (arith, few) in
-      within-take n (t.first - q.base) (t.last - q.base) (drop t.moved (addressed t.order (t.first - q.base) (t.last - q.base) (words_of t)))
-      (within-drop t.moved (t.first - q.base) (t.last - q.base) (addressed t.order (t.first - q.base) (t.last - q.base) (words_of t))
-      (within-addressed t.order (t.first - q.base) (t.last - q.base) (words_of t) enough (omega arith)))
+      let enough : length (words_in_flight t) ≤ t.last - q.base + 1 - (t.first - q.base) = omega (arith, few) in
+      within-take n (t.first - q.base) (t.last - q.base) (drop t.moved (addressed t.order (t.first - q.base) (t.last - q.base) (words_in_flight t)))
+      (within-drop t.moved (t.first - q.base) (t.last - q.base) (addressed t.order (t.first - q.base) (t.last - q.base) (words_in_flight t))
+      (within-addressed t.order (t.first - q.base) (t.last - q.base) (words_in_flight t) enough (omega arith)))
 
   -- where it is an input
   module _ (is : is_input t.order ≡ true) where

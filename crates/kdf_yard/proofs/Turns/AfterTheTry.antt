@@ -20,8 +20,8 @@ use Rattle.kdf_processor.specs.State.{word_at}
 use Rattle.kdf_processor.specs.Outcome.{Outcome, outcome}
 use Rattle.kdf_yard.specs.declared.moment.Moment.{Moment}
 use Rattle.kdf_theory.specs.Seen.{tried}
-use Rattle.kdf_yard.specs.declared.note.Note.{Note}
-use Rattle.kdf_yard.specs.Fields.Notes.{note_of}
+use Rattle.kdf_yard.specs.declared.remark.Remark.{Remark}
+use Rattle.kdf_yard.specs.Fields.Remarks.{note_of}
 use Rattle.kdf_yard.specs.Fields.Running.{AreHeld, no_seat, seat_at, reach_at, part_at, own_state, hold_of, outcome_at, IsRunning}
 use Rattle.kdf_yard.specs.Fields.Parts.{Part, Seat, Reach, asked_after, borrower, in_pool, is_lent_by, own_stock, part_after}
 use Rattle.kdf_yard.specs.Fields.Stints.{lends}
@@ -149,7 +149,7 @@ module _ (reaches : List Reach) (seats : List Seat) (t : Moment) (s : Shared) (p
               (turn.e reaches seats t s p run lt) (turn.free reaches seats t s p run lt is) dead
 
   -- an order that was tried, after which a program that is over gave up what it had
-  module _ (held : ℕ → Option ℕ) (lent : AreHeld held reaches seats) (new : Seat) (s' : Shared) (step : Step) (note : Note)
+  module _ (held : ℕ → Option ℕ) (lent : AreHeld held reaches seats) (new : Seat) (s' : Shared) (step : Step) (note : Remark)
       (ran : HasRun (reach_at reaches p) held t (seat_at seats p) s new s' step note) where
     -- a device of the pool is taken, as the program finds it, where a program has it
     found_taken : (d : ℕ) → in_pool q d ≡ true → is_taken_by (seat_at seats p).claimed held d ≡ is_lent_by seats d

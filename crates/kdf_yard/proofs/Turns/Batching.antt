@@ -7,8 +7,8 @@ use Rattle.kdf_processor.specs.declared.step.Step.TheVariants as step
 use Rattle.kdf_processor.specs.Lone.{is_live}
 use Rattle.kdf_processor.specs.Outcome.{Outcome}
 use Rattle.kdf_yard.specs.declared.moment.Moment.{Moment}
-use Rattle.kdf_yard.specs.declared.note.Note.{Note}
-use Rattle.kdf_yard.specs.declared.note.Note.TheVariants as note
+use Rattle.kdf_yard.specs.declared.remark.Remark.{Remark}
+use Rattle.kdf_yard.specs.declared.remark.Remark.TheVariants as note
 use Rattle.kdf_yard.specs.Fields.Batches.{of_seat, of_seats, AreQuiet, HasBatch, HasTriedOn, HasTurnedOn, Passes, is_at}
 use Rattle.kdf_theory.specs.Holders.{held_by}
 use Rattle.kdf_theory.proofs.GoingOn.{GoesOn, goes_on}
@@ -18,8 +18,8 @@ use Rattle.kdf_places.specs.Shared.{Shared}
 use Rattle.kdf_yard.specs.Fields.Settled.{Both, both_of, settled}
 use Rattle.kdf_yard.specs.Fields.Shared.{moment, view}
 use Rattle.kdf_theory.specs.Asked.{HasAsked}
-use Rattle.kdf_yard.specs.declared.turn.Turn.{Turn}
-use Rattle.kdf_yard.specs.Fields.Turn.{held_in, reach_in, SameProgram}
+use Rattle.kdf_yard.specs.declared.machine_port.MachinePort.{MachinePort}
+use Rattle.kdf_yard.specs.Fields.MachinePort.{held_in, reach_in, SameProgram}
 use Rattle.kdf_yard.specs.Fields.Turned.{both_after, outcome_over, told, word_over, HasRun, HasTried, HasTurned}
 use Rattle.kdf_theory.proofs.Course.HeardWords.{has_none}
 use Rattle.kdf_yard.proofs.Turns.HeardWords.{none_served}
@@ -27,14 +27,14 @@ use Rattle.kdf_yard.proofs.Turns.DevicesLeave.{run_by, settled_on}
 use Rattle.kdf_yard.proofs.Turns.AfterTheTry.{turned, turned_running}
 
 module _ (reach : Reach) (held : ℕ → Option ℕ) (m : Moment) where
-  abbrev Tries : Seat → Shared → Seat → Shared → Step → Note → Type 0
+  abbrev Tries : Seat → Shared → Seat → Shared → Step → Remark → Type 0
   Tries = HasTried reach held m
 
-  abbrev Runs : Seat → Shared → Seat → Shared → Step → Note → Type 0
+  abbrev Runs : Seat → Shared → Seat → Shared → Step → Remark → Type 0
   Runs = HasRun reach held m
 
   -- a program that tried an order, which was obeyed
-  pub went_on : (before : Seat) (s : Shared) (after : Seat) (left : Shared) (noted : Note) → Tries before s after left step.Done noted
+  pub went_on : (before : Seat) (s : Shared) (after : Seat) (left : Shared) (noted : Remark) → Tries before s after left step.Done noted
       → GoesOn before.registers after.registers
   went_on before s after left noted tried =
       let o : Outcome = outcome_over before reach (told before held m) s in
@@ -43,7 +43,7 @@ module _ (reach : Reach) (held : ℕ → Option ℕ) (m : Moment) where
 
   -- after so many, it was the last of them
   pub last_by : (place : Option ℕ) (n k : ℕ) (before : Seat) (s : Shared) (mid : Seat) (between : Shared) (after : Seat) (left : Shared) (ended ended' : Step)
-      (noted noted' : Note) → AreQuiet (Passes of_seat place Tries) n before s mid between → n ≡ k → Tries mid between after left ended noted → ended ≡ ended'
+      (noted noted' : Remark) → AreQuiet (Passes of_seat place Tries) n before s mid between → n ≡ k → Tries mid between after left ended noted → ended ≡ ended'
       → noted' ≡ noted → HasBatch of_seat place Tries k before s after left ended' noted'
   last_by place n k before s mid between after left ended ended' noted noted' earlier many last is is' =
       record {
@@ -54,7 +54,7 @@ module _ (reach : Reach) (held : ℕ → Option ℕ) (m : Moment) where
       }
 
   -- gives nothing up
-  pub run_on : (before : Seat) (s : Shared) (after : Seat) (left : Shared) (noted : Note) → is_live before.registers.state ≡ true
+  pub run_on : (before : Seat) (s : Shared) (after : Seat) (left : Shared) (noted : Remark) → is_live before.registers.state ≡ true
       → Tries before s after left step.Done noted → Runs before s after left step.Done noted × is_live after.registers.state ≡ true
   run_on before s after left noted live tried =
       let on : is_live after.registers.state ≡ true = ap is_live (went_on before s after left noted tried).state ∙ live in
@@ -72,7 +72,7 @@ module _ (reach : Reach) (held : ℕ → Option ℕ) (m : Moment) where
 
   -- after the last, a program that is over gave up what it had
   pub runs_by : (place : Option ℕ) (n : ℕ) (before : Seat) (s : Shared) (mid : Seat) (between : Shared) (after : Seat) (left : Shared) (ended : Step)
-      (noted : Note) → is_live before.registers.state ≡ true → HasBatch of_seat place Tries n before s mid between ended noted
+      (noted : Remark) → is_live before.registers.state ≡ true → HasBatch of_seat place Tries n before s mid between ended noted
       → both_of after left ≡ settled (both_of mid between) → HasBatch of_seat place Runs n before s after left ended noted
   runs_by place n before s mid between after left ended noted live batch is =
       record {
@@ -92,7 +92,7 @@ module _ (reach : Reach) (held : ℕ → Option ℕ) (m : Moment) where
       subst (λ (b : Both). AreQuiet (Passes of_seat place Runs) n before s b.seat b.shared) (sym same) until.0
 
   -- a program that was obeyed is live, if it was
-  pub live_on : (before : Seat) (s : Shared) (after : Seat) (left : Shared) (noted : Note) → is_live before.registers.state ≡ true
+  pub live_on : (before : Seat) (s : Shared) (after : Seat) (left : Shared) (noted : Remark) → is_live before.registers.state ≡ true
       → Runs before s after left step.Done noted → is_live after.registers.state ≡ true
   live_on before s after left noted live ran =
       let q : Part = part_in before reach in
@@ -101,7 +101,7 @@ module _ (reach : Reach) (held : ℕ → Option ℕ) (m : Moment) where
       ap (λ (b : Both). is_live b.seat.registers.state) (ran.both ∙ sym (settled_on (both_after q s o) on)) ∙ on
 
 -- what is tried over a turn is tried over one of the same program
-pub tried_over : (t u : Turn) → SameProgram t u → (before : Seat) (s : Shared) (after : Seat) (left : Shared) (ended : Step) (noted : Note)
+pub tried_over : (t u : MachinePort) → SameProgram t u → (before : Seat) (s : Shared) (after : Seat) (left : Shared) (ended : Step) (noted : Remark)
     → HasTried (reach_in u) (held_in u) u.moment before s after left ended noted → HasTried (reach_in t) (held_in t) t.moment before s after left ended noted
 tried_over t u same before s after left ended noted tried =
     subst (λ J. HasTried (reach_in t) (held_by J) t.moment before s after left ended noted) same.same.journal
@@ -116,13 +116,13 @@ still_held reaches held m i before s after left turn lent j d lt pooled =
 
 -- program i of all
 module _ (reaches : List Reach) (held : ℕ → Option ℕ) (m : Moment) (i : ℕ) (place : Option ℕ) where
-  abbrev Turns : List Seat → Shared → List Seat → Shared → Step → Note → Type 0
+  abbrev Turns : List Seat → Shared → List Seat → Shared → Step → Remark → Type 0
   Turns = HasTurnedOn reaches m i
 
-  abbrev Goes : Seat → Shared → Seat → Shared → Step → Note → Type 0
+  abbrev Goes : Seat → Shared → Seat → Shared → Step → Remark → Type 0
   Goes = HasRun (reach_at reaches i) held m
 
-  pub turn_on : (seats : List Seat) (s : Shared) (new : Seat) (left : Shared) (ended : Step) (noted : Note) → IsRunning reaches seats s
+  pub turn_on : (seats : List Seat) (s : Shared) (new : Seat) (left : Shared) (ended : Step) (noted : Remark) → IsRunning reaches seats s
       → AreHeld held reaches seats → i < length seats → is_live (seat_at seats i).registers.state ≡ true → Goes (seat_at seats i) s new left ended noted
       → Turns seats s (set seats i new) left ended noted
   turn_on seats s new left ended noted run lent lt live ran = (
@@ -132,7 +132,7 @@ module _ (reaches : List Reach) (held : ℕ → Option ℕ) (m : Moment) (i : �
   )
 
   -- after one that goes on, from where it is
-  turn_then : (seats : List Seat) (s : Shared) (mid : Seat) (between : Shared) (new : Seat) (left : Shared) (ended : Step) (noted : Note) → i < length seats
+  turn_then : (seats : List Seat) (s : Shared) (mid : Seat) (between : Shared) (new : Seat) (left : Shared) (ended : Step) (noted : Remark) → i < length seats
       → IsRunning reaches (set seats i mid) between → AreHeld held reaches (set seats i mid) → is_live mid.registers.state ≡ true
       → Goes mid between new left ended noted → Turns (set seats i mid) between (set seats i new) left ended noted
   turn_then seats s mid between new left ended noted lt run lent live ran =
@@ -166,7 +166,7 @@ module _ (reaches : List Reach) (held : ℕ → Option ℕ) (m : Moment) (i : �
         live_on (reach_at reaches i) held m mid between new left note.Quiet until.3 last.0,
       )
 
-  pub turns_by : (n : ℕ) (seats : List Seat) (s : Shared) (new : Seat) (left : Shared) (ended : Step) (noted : Note) → IsRunning reaches seats s
+  pub turns_by : (n : ℕ) (seats : List Seat) (s : Shared) (new : Seat) (left : Shared) (ended : Step) (noted : Remark) → IsRunning reaches seats s
       → AreHeld held reaches seats → i < length seats → is_live (seat_at seats i).registers.state ≡ true
       → HasBatch of_seat place Goes n (seat_at seats i) s new left ended noted → HasBatch (of_seats i) place Turns n seats s (set seats i new) left ended noted
   turns_by n seats s new left ended noted run lent lt live batch =
@@ -179,7 +179,7 @@ module _ (reaches : List Reach) (held : ℕ → Option ℕ) (m : Moment) (i : �
       }
 
 -- ---- what holds of each that is tried
-module _ {X : Type 0} (P Q : X → Shared → X → Shared → Step → Note → Type 0) where
+module _ {X : Type 0} (P Q : X → Shared → X → Shared → Step → Remark → Type 0) where
   -- each of one kind is one of the other
   pub quiet_map : ((b : X) (s : Shared) (a : X) (l : Shared) → P b s a l step.Done note.Quiet → Q b s a l step.Done note.Quiet)
       → (n : ℕ) (before : X) (s : Shared) (after : X) (left : Shared) → AreQuiet P n before s after left → AreQuiet Q n before s after left
@@ -196,14 +196,14 @@ still_running reaches m i place (suc n) seats s seats' s' run (mid, between, ear
 
 -- ---- what was heard of the service
 module _ (answers : ℕ → ℕ → Type 0) (reaches : List Reach) (time i : ℕ) (place : Option ℕ) where
-  abbrev Told : List Seat → Shared → List Seat → Shared → Step → Note → Type 0
+  abbrev Told : List Seat → Shared → List Seat → Shared → Step → Remark → Type 0
   Told = HasTriedOn answers reaches time i
 
-  abbrev Turned : ℕ → List Seat → Shared → List Seat → Shared → Step → Note → Type 0
+  abbrev Turned : ℕ → List Seat → Shared → List Seat → Shared → Step → Remark → Type 0
   Turned h = HasTurnedOn reaches (moment time h) i
 
   -- a program that isn't served asks nothing
-  unserved : (reach_at reaches i).served ≡ false → (h : ℕ) → h ≡ 0 → (b : List Seat) (s : Shared) (a : List Seat) (l : Shared) (ended : Step) (noted : Note)
+  unserved : (reach_at reaches i).served ≡ false → (h : ℕ) → h ≡ 0 → (b : List Seat) (s : Shared) (a : List Seat) (l : Shared) (ended : Step) (noted : Remark)
       → Turned h b s a l ended noted → Told b s a l ended noted
   unserved not_served h none b s a l ended noted turn = (
     record {
@@ -224,7 +224,7 @@ module _ (answers : ℕ → ℕ → Type 0) (reaches : List Reach) (time i : ℕ
   -- one that is served tried one order
   module _ (heard : Option ℕ) (h : ℕ) (is : h ≡ unwrap_or heard 0) (before : List Seat) (s : Shared)
       (asked : HasAsked answers (word_over (seat_at before i) (reach_at reaches i) s) heard) where
-    one : (a : List Seat) (l : Shared) (ended : Step) (noted : Note) (mid : List Seat) (between : Shared) → mid ≡ before → between ≡ s
+    one : (a : List Seat) (l : Shared) (ended : Step) (noted : Remark) (mid : List Seat) (between : Shared) → mid ≡ before → between ≡ s
         → Turned h mid between a l ended noted → HasBatch (of_seats i) place Told 0 before s a l ended noted
     one a l ended noted mid between same same' turn =
         let here : Turned h before s a l ended noted = subst (λ y. Turned h before y a l ended noted) same'
@@ -240,7 +240,7 @@ module _ (answers : ℕ → ℕ → Type 0) (reaches : List Reach) (time i : ℕ
         }
 
     pub told_by : (served : Bool) → (reach_at reaches i).served ≡ served → (n : ℕ) → (served ≡ true → n ≡ 0)
-        → (a : List Seat) (l : Shared) (ended : Step) (noted : Note) → HasBatch (of_seats i) place (Turned h) n before s a l ended noted
+        → (a : List Seat) (l : Shared) (ended : Step) (noted : Remark) → HasBatch (of_seats i) place (Turned h) n before s a l ended noted
         → HasBatch (of_seats i) place Told n before s a l ended noted
     told_by false not_served n few a l ended noted batch =
         let none : h ≡ 0 = is ∙ none_then (seat_at before i) s heard not_served asked in

@@ -7,7 +7,7 @@ use Rattle.kdf_processor.specs.declared.step.Step.{Step}
 use Rattle.kdf_processor.specs.Lone.{is_live}
 use Rattle.kdf_lockout.specs.Groups.{Cells}
 use Rattle.kdf_yard.specs.declared.moment.Moment.{Moment}
-use Rattle.kdf_yard.specs.declared.note.Note.{Note}
+use Rattle.kdf_yard.specs.declared.remark.Remark.{Remark}
 use Rattle.kdf_yard.specs.declared.stint.Stint.{Stint}
 use Rattle.kdf_yard.specs.Fields.Parts.{Reach, Seat, seat}
 use Rattle.kdf_places.specs.Shared.{Shared}
@@ -45,7 +45,7 @@ settled_on b live = sym (ap (λ l. cond l b (retired (length b.seat.stints) b)) 
 
 -- after its order
 pub run_by : (reach : Reach) (held : ℕ → Option ℕ) (m : Moment) (before : Seat) (s : Shared) (mid : Seat) (between : Shared) (after : Seat) (left : Shared)
-    (ended : Step) (noted : Note) → HasTried reach held m before s mid between ended noted → both_of after left ≡ settled (both_of mid between)
+    (ended : Step) (noted : Remark) → HasTried reach held m before s mid between ended noted → both_of after left ≡ settled (both_of mid between)
     → HasRun reach held m before s after left ended noted
 run_by reach held m before s mid between after left ended noted tried is =
     record { step = tried.step; note = tried.note; both = is ∙ ap₂ (λ a b. settled (both_of a b)) tried.program tried.shared }

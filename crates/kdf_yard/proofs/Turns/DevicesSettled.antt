@@ -11,7 +11,7 @@ use Rattle.kdf_processor.specs.Needs.{effect_needs}
 use Rattle.kdf_processor.specs.Outcome.{Outcome, done}
 use Rattle.kdf_processor.specs.View.{first_pending}
 use Rattle.kdf_yard.specs.declared.moment.Moment.{Moment}
-use Rattle.kdf_yard.specs.Fields.Notes.{note_of}
+use Rattle.kdf_yard.specs.Fields.Remarks.{note_of}
 use Rattle.kdf_yard.specs.Fields.Parts.{Part, Reach, Seat, back_from, borrower, lent_to, own_claims, part_after}
 use Rattle.kdf_places.specs.Shared.{Shared}
 use Rattle.kdf_places.specs.Spots.{spot_at}

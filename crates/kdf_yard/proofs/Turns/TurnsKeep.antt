@@ -8,14 +8,14 @@ use Rattle.kdf_processor.specs.Effect.{Asks, FreeOf}
 use Rattle.kdf_processor.specs.declared.spooled.Spooled.{Spooled}
 use Rattle.kdf_places.specs.declared.place.Place.{Place}
 use Rattle.kdf_yard.specs.declared.stint.Stint.{Stint}
-use Rattle.kdf_yard.specs.declared.turn.Turn.{Turn}
+use Rattle.kdf_yard.specs.declared.machine_port.MachinePort.{MachinePort}
 use Rattle.kdf_yard.specs.Fields.Keeping.{IsActive, IsActiveBy, IsKept, IsKeptBy}
 use Rattle.kdf_yard.specs.Fields.Parts.{Part, back_from, lent_to, part_after, part_with}
 use Rattle.kdf_places.specs.Shared.{Shared, shared_in}
 use Rattle.kdf_places.specs.Transfers.{start_spot}
 use Rattle.kdf_places.specs.Spots.{Spot, blank_spot, fixture_or, spot_at, spot_of}
 use Rattle.kdf_yard.specs.Fields.Stints.{Keeping, Lent, keeping_of, with_loan}
-use Rattle.kdf_yard.specs.Fields.Turn.{part_of, shared}
+use Rattle.kdf_yard.specs.Fields.MachinePort.{part_of, shared}
 use Rattle.kdf_yard.proofs.Physical.PoolDevices.{IsFree, IsIts, active-spooled, back_kind, given_active, given_kept, kept-cells, kept-marked, kept-same}
 use Rattle.kdf_yard.proofs.Physical.PoolDevices.{kept-spooled, taken_active, taken_kept}
 
@@ -26,22 +26,22 @@ kept_any q s claimed spooled cells kept =
     (kept-spooled (record q { claimed = claimed }) s spooled (kept-marked q s claimed kept))
 
 -- of its part, what keeping looks at; with its marks, what is looked at of a live program
-abbrev pub unmarked : Turn → Part
+abbrev pub unmarked : MachinePort → Part
 unmarked t = part_with t.p t.window t.slot.now [] [] t.stints.now.items
 
-abbrev pub marked : Turn → Part
+abbrev pub marked : MachinePort → Part
 marked t = part_with t.p t.window t.slot.now t.claimed.now [] t.stints.now.items
 
-abbrev pub places_of : Turn → Shared
+abbrev pub places_of : MachinePort → Shared
 places_of t = shared_in [] t.places.now.items
 
-pub kept_in : (t : Turn) → IsKept (part_of t) (shared t)
+pub kept_in : (t : MachinePort) → IsKept (part_of t) (shared t)
 kept_in t = kept_any (unmarked t) (places_of t) t.claimed.now t.spooled.now.items t.store.now t.kept
 
-pub active_in : (t : Turn) → IsActive (part_of t)
+pub active_in : (t : MachinePort) → IsActive (part_of t)
 active_in t = active-spooled (marked t) t.spooled.now.items t.active
 
-kept_marked : (t : Turn) → IsKept (marked t) (places_of t)
+kept_marked : (t : MachinePort) → IsKept (marked t) (places_of t)
 kept_marked t = kept_any (unmarked t) (places_of t) t.claimed.now [] [] t.kept
 
 -- at the begin of a turn
@@ -69,7 +69,7 @@ some_fixture : (o : Option Fixture) → is_some o ≡ true → Some (fixture_or 
 some_fixture (Some f) is = refl
 some_fixture None is = cc
 
-module _ (t : Turn) (d : ℕ) (o : TransferOrder) (first last : ℕ) (places : List Place) (inside : d < length (map spot_of t.places.now.items))
+module _ (t : MachinePort) (d : ℕ) (o : TransferOrder) (first last : ℕ) (places : List Place) (inside : d < length (map spot_of t.places.now.items))
     (shows : map spot_of places ≡ set (map spot_of t.places.now.items) d
     (start_spot t.p o first last t.store.now (spot_at (map spot_of t.places.now.items) d))) where
   abbrev begun : Spot
@@ -82,7 +82,7 @@ module _ (t : Turn) (d : ℕ) (o : TransferOrder) (first last : ℕ) (places : L
 
 -- ---- it took a device of the pool
 
-module _ (t : Turn) (d : ℕ) (stints : List Stint) (free : IsFree (part_of t) d)
+module _ (t : MachinePort) (d : ℕ) (stints : List Stint) (free : IsFree (part_of t) d)
     (are : map keeping_of stints ≡ map keeping_of t.stints.now.items ++ record { device = d; loan = Lent } ∷ []) where
   free_there : IsFree (marked t) d
   free_there = record { pooled = free.pooled; unlent = free.unlent }
@@ -110,7 +110,7 @@ take_part q s kind a d stints is are =
 
 -- ---- it gave one back
 
-module _ (t : Turn) (d : ℕ) (stints : List Stint) (places : List Place) (inside : d < length (map spot_of t.places.now.items))
+module _ (t : MachinePort) (d : ℕ) (stints : List Stint) (places : List Place) (inside : d < length (map spot_of t.places.now.items))
     (its : IsIts (part_of t) (shared t) d) (are : map keeping_of stints ≡ map (with_loan d (back_from (spot_at (map spot_of t.places.now.items) d)))
     (map keeping_of t.stints.now.items)) (shows : map spot_of places ≡ set (map spot_of t.places.now.items) d
     (blank_spot (spot_at (map spot_of t.places.now.items) d))) where

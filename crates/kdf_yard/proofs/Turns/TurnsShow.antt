@@ -3,25 +3,25 @@ use Rattle.std.proofs.Common.{◌≡◌, ℕ, Bool, true, false, List, refl, sym
 use Rattle.kdf_processor.specs.declared.registers.Registers.{Registers}
 use Rattle.kdf_processor.specs.declared.step.Step.{Step}
 use Rattle.kdf_yard.specs.declared.moment.Moment.{Moment}
-use Rattle.kdf_yard.specs.declared.note.Note.TheVariants.{Quiet}
+use Rattle.kdf_yard.specs.declared.remark.Remark.TheVariants.{Quiet}
 use Rattle.kdf_processor.specs.Effect.{Act, Nothing, Writes, Starts, Asks, FreeOf, Acquires, Releases, Spools}
 use Rattle.kdf_processor.specs.Outcome.{Outcome, outcome}
 use Rattle.kdf_processor.specs.declared.spooled.Spooled.{Spooled}
 use Rattle.kdf_lockout.specs.Groups.{Cells}
 use Rattle.kdf_places.specs.declared.place.Place.{Place}
-use Rattle.kdf_yard.specs.declared.turn.Turn.{Turn}
+use Rattle.kdf_yard.specs.declared.machine_port.MachinePort.{MachinePort}
 use Rattle.kdf_places.specs.Spots.{Spot, spot_of}
 use Rattle.kdf_yard.specs.Fields.Turned.{HasTried}
-use Rattle.kdf_yard.specs.Fields.Notes.{note_after}
+use Rattle.kdf_yard.specs.Fields.Remarks.{note_after}
 use Rattle.kdf_yard.specs.Fields.Parts.{Part, Reach, Seat, part_after, seat}
 use Rattle.kdf_places.specs.Shared.{Shared}
 use Rattle.kdf_yard.specs.Fields.Shared.{after_act}
 use Rattle.kdf_yard.specs.Fields.Stints.{keeping_of}
 use Rattle.kdf_yard.specs.declared.stint.Stint.{Stint}
-use Rattle.kdf_yard.specs.Fields.Turn.{held_in, part_of, reach_in, seat_in, shared, shown, Acts, SameProgram, SameTurn, Stays}
+use Rattle.kdf_yard.specs.Fields.MachinePort.{held_in, part_of, reach_in, seat_in, shared, shown, Acts, SameProgram, SameTurn, Stays}
 
 -- a turn that became another is over the same machine as that
-pub same_same : (t u w : Turn) → SameTurn t u → SameTurn u w → SameTurn t w
+pub same_same : (t u w : MachinePort) → SameTurn t u → SameTurn u w → SameTurn t w
 same_same t u w first second =
     record {
       moment = second.moment ∙ first.moment;
@@ -35,7 +35,7 @@ same_same t u w first second =
     }
 
 -- what was done to a turn that only took memory was done to the turn before
-pub acts_from : (t u w : Turn) (act : Act) → Stays t u → Acts u act w → Acts t act w
+pub acts_from : (t u w : MachinePort) (act : Act) → Stays t u → Acts u act w → Acts t act w
 acts_from t u w act stays acted =
     record {
       same = same_same t u w stays.same acted.same;
@@ -75,7 +75,7 @@ number_after q s (Releases true d) = refl
 number_after q s (Releases false d) = refl
 number_after q s (Spools stream first last) = refl
 
-pub program_acts : (old new : Turn) (act : Act) → Acts old act new → SameProgram old new
+pub program_acts : (old new : MachinePort) (act : Act) → Acts old act new → SameProgram old new
 program_acts old new act acted =
     record {
       same = acted.same;
@@ -83,15 +83,15 @@ program_acts old new act acted =
       reach = ap reach_from acted.part ∙ reach_after (part_of old) (shared old) act;
     }
 
-pub program_stays : (old new : Turn) → Stays old new → SameProgram old new
+pub program_stays : (old new : MachinePort) → Stays old new → SameProgram old new
 program_stays old new stays =
     record { same = stays.same; p = ap (λ (q : Part). q.p) stays.part; reach = ap reach_from stays.part }
 
-pub program_then : (t u w : Turn) → SameProgram t u → SameProgram u w → SameProgram t w
+pub program_then : (t u w : MachinePort) → SameProgram t u → SameProgram u w → SameProgram t w
 program_then t u w first second =
     record { same = same_same t u w first.same second.same; p = second.p ∙ first.p; reach = second.reach ∙ first.reach }
 
-pub program_itself : (t : Turn) → SameProgram t t
+pub program_itself : (t : MachinePort) → SameProgram t t
 program_itself t =
     record {
       same = record { moment = refl; journal = refl; claimed = refl; spooled = refl; stints = refl; store = refl; places = refl; block = refl };
@@ -100,7 +100,7 @@ program_itself t =
     }
 
 -- an order that was obeyed once memory was taken, where nothing was noted before
-pub tried_by : (old mid new : Turn) (r left : Registers) (ended : Step) → old.note ≡ Quiet → Stays old mid → ended ≡ (outcome (shown old) r).step
+pub tried_by : (old mid new : MachinePort) (r left : Registers) (ended : Step) → old.note ≡ Quiet → Stays old mid → ended ≡ (outcome (shown old) r).step
     → left ≡ (outcome (shown old) r).registers → Acts mid (outcome (shown old) r).act new → HasTried (reach_in old) (held_in old) old.moment (seat_in old r)
     (shared old) (seat_in new left) (shared new) ended new.note
 tried_by old mid new r left ended quiet stays step registers acted =
@@ -127,10 +127,11 @@ lent_over P r r' m m' a a' s s' b b' l l' e f g h i j p =
     (subst (λ x. P r' m' a' x b l) h (subst (λ x. P r' m' x s b l) g (subst (λ x. P r' x a s b l) f (subst (λ x. P x m a s b l) e p)))))
 
 -- the fields of a program that were lent are as the turn leaves them
-pub seat_back : (t : Turn) (p : ℕ) (r : Registers) (claimed : List Bool) (spooled : List Spooled) (stints : List Stint) → t.p ≡ p → claimed ≡ t.claimed.now
+pub seat_back : (t : MachinePort) (p : ℕ) (r : Registers) (claimed : List Bool) (spooled : List Spooled) (stints : List Stint) → t.p ≡ p
+    → claimed ≡ t.claimed.now
     → spooled ≡ t.spooled.now.items → stints ≡ t.stints.now.items → seat p r claimed spooled (map keeping_of stints) ≡ seat_in t r
 seat_back t p r claimed spooled stints e f g h =
     ap₂ (λ k x. seat k r x spooled (map keeping_of stints)) (sym e) f ∙ ap₂ (λ x y. seat t.p r t.claimed.now x (map keeping_of y)) g h
 
-pub shared_back : (t : Turn) (c : Cells) (ps : List Place) → c ≡ t.store.now → ps ≡ t.places.now.items → share c (map spot_of ps) ≡ shared t
+pub shared_back : (t : MachinePort) (c : Cells) (ps : List Place) → c ≡ t.store.now → ps ≡ t.places.now.items → share c (map spot_of ps) ≡ shared t
 shared_back t c ps d e = ap₂ (λ a b. share a (map spot_of b)) d e

@@ -10,7 +10,7 @@ use Rattle.kdf_processor.specs.Effect.{Effect, Failing, Ending, Changing, Fetchi
 use Rattle.kdf_processor.specs.Effect.{IsOut, Time, FreeOf, OfService}
 use Rattle.kdf_processor.specs.Needs.{count_at, effect_at, effect_needs, fetch_needs, group_of, needs_at, syllable_needs}
 use Rattle.kdf_processor.specs.Outcome.{done, held_or, outcome}
-use Rattle.kdf_processor.specs.Table.{on}
+use Rattle.kdf_processor.specs.Table.{syllable_after}
 use Rattle.kdf_processor.specs.View.{View, first_pending}
 use Rattle.kdf_processor.proofs.Words.{done_word}
 use Rattle.kdf_yard.specs.Fields.Parts.{Part}
@@ -28,7 +28,7 @@ fetch_alike : (q : Part) (t w : Setting) (s : Shared) (n size at : ℕ)
     → first_pending (view q t s) (syllable_needs n size at) ≡ first_pending (view q w s) (syllable_needs n size at)
 fetch_alike q t w s zero size at = refl
 fetch_alike q t w s (suc n) size at =
-    one_more q t w s (nat_lt (at / 6) size) (group_of (at / 6)) (syllable_needs n size (on at 1)) (fetch_alike q t w s n size (on at 1))
+    one_more q t w s (nat_lt (at / 6) size) (group_of (at / 6)) (syllable_needs n size (syllable_after at 1)) (fetch_alike q t w s n size (syllable_after at 1))
 
 -- the word that is asked, unless the order is held up
 abbrev unless_held : Option Need → Option ℕ → Option ℕ

@@ -17,7 +17,7 @@ use Rattle.kdf_processor.specs.declared.step.Step.{Step}
 use Rattle.kdf_processor.specs.Lone.{is_live}
 use Rattle.kdf_transfer.proofs.Numbers.{limit_is}
 use Rattle.kdf_yard.specs.declared.moment.Moment.{Moment}
-use Rattle.kdf_yard.specs.declared.note.Note.{Note}
+use Rattle.kdf_yard.specs.declared.remark.Remark.{Remark}
 use Rattle.kdf_yard.specs.declared.program.Program.{Program}
 use Rattle.kdf_yard.specs.declared.slot.Loaded.{Loaded}
 use Rattle.kdf_yard.specs.declared.yard.Yard.TheInside.{Inside}
@@ -189,7 +189,7 @@ module _ (m : Inside) (yard : IsYard m.slots.items m.windows m.store m.programs.
             lent_there : AreLentIn (stands m) J
             lent_there = subst (λ (x : Standing). AreLentIn x J) (sym is) lent
 
-            turned_then : (ended : Step) (noted : Note) → HasBatch of_seat place (HasRun (reach_of m.windows slot) (held_by J) t) n (seat_of program) s
+            turned_then : (ended : Step) (noted : Remark) → HasBatch of_seat place (HasRun (reach_of m.windows slot) (held_by J) t) n (seat_of program) s
                 (seat_of new) (shared_in store places) ended noted → HasTurnedIn t i n place (stands m) z ended noted
             turned_then ended noted ran =
                 subst (λ xs. HasBatch (of_seats i) place (HasTurnedOn rs t i) n ps s xs (shared_in store places) ended noted)
@@ -197,11 +197,11 @@ module _ (m : Inside) (yard : IsYard m.slots.items m.windows m.store m.programs.
                 (turns_by rs (held_by J) t i place n ps s (seat_of new) (shared_in store places) ended noted yard.running lent_there inside on
                 (at_place (λ r x. HasBatch of_seat place (HasRun r (held_by J) t) n x s (seat_of new) (shared_in store places) ended noted) ran))
 
-            pub turned_in : (ended : Step) (noted : Note) → HasBatch of_seat place (HasRun (reach_of m.windows slot) (held_by J) t) n (seat_of program) s
+            pub turned_in : (ended : Step) (noted : Remark) → HasBatch of_seat place (HasRun (reach_of m.windows slot) (held_by J) t) n (seat_of program) s
                 (seat_of new) (shared_in store places) ended noted → HasTurnedIn t i n place y z ended noted
             turned_in ended noted ran = subst (λ (x : Standing). HasTurnedIn t i n place x z ended noted) is (turned_then ended noted ran)
 
-            pub runs_then : (ended : Step) (noted : Note) → HasBatch of_seat place (HasRun (reach_of m.windows slot) (held_by J) t) n (seat_of program) s
+            pub runs_then : (ended : Step) (noted : Remark) → HasBatch of_seat place (HasRun (reach_of m.windows slot) (held_by J) t) n (seat_of program) s
                 (seat_of new) (shared_in store places) ended noted → Runs z
             runs_then ended noted ran = (turned_then ended noted ran).last.1
 

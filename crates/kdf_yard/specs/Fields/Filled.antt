@@ -14,7 +14,7 @@ use Rattle.kdf_yard.specs.declared.slot.Loaded.{Loaded}
 use Rattle.kdf_yard.specs.Fields.Parts.{Seat, window_at}
 use Rattle.kdf_places.specs.Spots.{Spot, no_spot}
 use Rattle.kdf_job.specs.Slots.{lent_kind, numbered}
-use Rattle.kdf_theory.specs.Loading.{SlotLoad, slot_of}
+use Rattle.kdf_theory.specs.Loading.{SlotLoad, loaded_slot}
 use Rattle.kdf_limits.specs.declared.store.TheConstants.{STORE_GROUPS}
 use Rattle.kdf_transfer.specs.Slots.{Slot}
 
@@ -98,4 +98,4 @@ idle_ring (Some x) = x.1
 
 -- a slot as it was loaded
 abbrev pub slot_loaded : Loaded → Slot
-slot_loaded l = slot_of (loaded l)
+slot_loaded l = loaded_slot (loaded l)

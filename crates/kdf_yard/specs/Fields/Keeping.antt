@@ -6,7 +6,7 @@ use Rattle.kdf_transfer.specs.ByNumber.{device_count}
 use Rattle.kdf_transfer.specs.Devices.{blank_fixture}
 use Rattle.kdf_processor.specs.State.{device_limit}
 use Rattle.kdf_places.specs.declared.place.Place.{Place}
-use Rattle.kdf_yard.specs.declared.stint.Stint.{Stint as KeptStint}
+use Rattle.kdf_yard.specs.declared.stint.Stint.{Stint}
 use Rattle.kdf_relocate.specs.declared.window.Window.{Window}
 use Rattle.kdf_yard.specs.declared.slot.Loaded.{Loaded}
 use Rattle.kdf_yard.specs.Fields.Parts.{Part, in_pool, part_with, pool_kind}
@@ -33,10 +33,10 @@ pub record IsActive (q : Part) : Type 0 where
   pub none_left : All (λ (x : Keeping). is_left x.loan ≡ false) q.stints
 
 -- a program with these fields keeps what it has: neither its marks nor what it spooled, nor the words, matter to that
-abbrev pub IsKeptBy : ℕ → Window → Loaded → List KeptStint → List Place → Type 0
+abbrev pub IsKeptBy : ℕ → Window → Loaded → List Stint → List Place → Type 0
 IsKeptBy p window slot stints places =
     IsKept (part_with p window slot [] [] stints) (shared_in [] places)
 
 -- and is live, with these marks
-abbrev pub IsActiveBy : ℕ → Window → Loaded → List Bool → List KeptStint → Type 0
+abbrev pub IsActiveBy : ℕ → Window → Loaded → List Bool → List Stint → Type 0
 IsActiveBy p window slot claimed stints = IsActive (part_with p window slot claimed [] stints)

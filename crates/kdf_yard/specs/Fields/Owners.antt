@@ -1,7 +1,7 @@
 -- Which program has a device, and what is told of a device by its number.
 use Rattle.std.specs.List.{All}
 use Rattle.std.specs.Prelude.{◌≡◌, ℕ, ◌&&◌, nat_lt, List, Bool, true, false, Option, Some, None, is_some, not, position, slice_index_or}
-use Rattle.kdf_transfer.specs.Devices.{Fixture, Progress, fixture_of, progress_of}
+use Rattle.kdf_transfer.specs.Devices.{Fixture, DeviceProgress, fixture_of, progress_of}
 use Rattle.kdf_transfer.specs.declared.device.Device.{Device}
 use Rattle.kdf_journal.specs.declared.entry.Entry.{Entry}
 use Rattle.kdf_journal.specs.declared.kind.Kind.{Kind}
@@ -40,7 +40,7 @@ fixture_told Lent x = fixture_or x.fixture
 fixture_told (Left fixture progress) x = fixture
 fixture_told (Back fixture progress) x = fixture
 
-abbrev pub progress_told : Loan → Spot → Progress
+abbrev pub progress_told : Loan → Spot → DeviceProgress
 progress_told Lent x = x.progress
 progress_told (Left fixture progress) x = progress
 progress_told (Back fixture progress) x = progress

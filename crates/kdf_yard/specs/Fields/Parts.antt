@@ -4,18 +4,18 @@ use Rattle.kdf_word.specs.Characters.{codes_of_all}
 use Rattle.kdf_media.specs.Media.{through_end}
 use Rattle.kdf_relocate.specs.declared.window.Window.{Window}
 use Rattle.kdf_journal.specs.declared.kind.Kind.{Kind}
-use Rattle.kdf_transfer.specs.Devices.{Fixture, Progress}
+use Rattle.kdf_transfer.specs.Devices.{Fixture, DeviceProgress}
 use Rattle.kdf_transfer.specs.declared.device.Device.{Device}
 use Rattle.kdf_processor.specs.declared.registers.Registers.{Registers}
 use Rattle.kdf_processor.specs.declared.spooled.Spooled.{Spooled}
 use Rattle.kdf_job.specs.Slots.{lent_kind}
-use Rattle.kdf_processor.specs.Claims.{taken}
+use Rattle.kdf_processor.specs.Claims.{taken_device}
 use Rattle.kdf_processor.specs.Effect.{Act, Nothing, Writes, Starts, Asks, FreeOf, Acquires, Releases, Spools}
 use Rattle.kdf_processor.specs.Row.{area_words}
 use Rattle.kdf_processor.specs.State.{Claims, Stock}
 use Rattle.kdf_yard.specs.declared.program.Program.{Program}
 use Rattle.kdf_yard.specs.declared.slot.Loaded.{Loaded}
-use Rattle.kdf_yard.specs.declared.stint.Stint.{Stint as KeptStint}
+use Rattle.kdf_yard.specs.declared.stint.Stint.{Stint}
 use Rattle.kdf_places.specs.Words.{own_words}
 use Rattle.kdf_transfer.specs.ByNumber.{by_number}
 use Rattle.kdf_places.specs.Spots.{Spot, fixture_or, spot_at, leases_of}
@@ -104,7 +104,7 @@ part_in seat reach =
     }
 
 -- that of a program with these fields, over a window and in a slot
-abbrev pub part_with : ℕ → Window → Loaded → List Bool → List Spooled → List KeptStint → Part
+abbrev pub part_with : ℕ → Window → Loaded → List Bool → List Spooled → List Stint → Part
 part_with p window slot claimed spooled stints =
     record {
       p = p;
@@ -138,7 +138,7 @@ own_fixture q spots d = fixture_owned q.devices spots d
 
 -- how far a device has come: as its place has it where it is the program's, and else as the program, which is over, has
 -- kept it
-abbrev pub own_progress : Part → List Spot → ℕ → Progress
+abbrev pub own_progress : Part → List Spot → ℕ → DeviceProgress
 own_progress q spots d =
     if has_device q d then (spot_at spots d).progress else left_in q.stints d
 
@@ -171,7 +171,7 @@ own_text q s first last = through_end (codes_of_all (area_words first last (own_
 
 -- the device of the pool that is lent where this is answered
 abbrev pub lent_to : Part → Shared → Kind → ℕ → ℕ
-lent_to q s kind answer = taken (own_claims q s) kind answer
+lent_to q s kind answer = taken_device (own_claims q s) kind answer
 
 -- the device of a place as it goes to its stint when it is given back
 abbrev pub back_from : Spot → Loan

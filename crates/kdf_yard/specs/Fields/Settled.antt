@@ -4,8 +4,8 @@ use Rattle.std.proofs.Common.{zero, suc}
 use Rattle.kdf_processor.specs.Lone.{is_live}
 use Rattle.kdf_processor.specs.declared.step.Step.{Step}
 use Rattle.kdf_processor.specs.declared.step.Step.TheVariants as step
-use Rattle.kdf_yard.specs.declared.note.Note.{Note}
-use Rattle.kdf_yard.specs.declared.note.Note.TheVariants as note
+use Rattle.kdf_yard.specs.declared.remark.Remark.{Remark}
+use Rattle.kdf_yard.specs.declared.remark.Remark.TheVariants as note
 use Rattle.kdf_yard.specs.Fields.Parts.{Seat}
 use Rattle.kdf_places.specs.Shared.{Shared}
 use Rattle.kdf_theory.specs.Holders.{is_taker}
@@ -57,7 +57,7 @@ abbrev pub settled : Both → Both
 settled b = if is_live b.seat.registers.state then b else retired (length b.seat.stints) b
 
 -- who has a device of the pool after the turn of program p, which ended so and of which this was noted
-abbrev pub holder_noted : ℕ → Note → ℕ → Option ℕ → Option ℕ
+abbrev pub holder_noted : ℕ → Remark → ℕ → Option ℕ → Option ℕ
 holder_noted p (note.Took e) d o = if e == d then Some p else o
 holder_noted p (note.Gave e) d o = if e == d then None else o
 holder_noted p _ d o = o
@@ -65,7 +65,7 @@ holder_noted p _ d o = o
 abbrev pub holder_over : ℕ → Option ℕ → Option ℕ
 holder_over p o = if is_taker p o then None else o
 
-abbrev pub holder_left : ℕ → Step → Note → ℕ → Option ℕ → Option ℕ
+abbrev pub holder_left : ℕ → Step → Remark → ℕ → Option ℕ → Option ℕ
 holder_left p (step.Fails kind) noted d o = holder_over p o
 holder_left p step.Ends noted d o = holder_over p o
 holder_left p (step.Held need) noted d o = o

@@ -5,8 +5,8 @@ use Rattle.kdf_processor.specs.declared.step.Step.{Step}
 use Rattle.kdf_processor.specs.Outcome.{Outcome, outcome}
 use Rattle.kdf_theory.specs.Seen.{tried}
 use Rattle.kdf_yard.specs.declared.moment.Moment.{Moment}
-use Rattle.kdf_yard.specs.declared.note.Note.{Note}
-use Rattle.kdf_yard.specs.Fields.Notes.{note_of}
+use Rattle.kdf_yard.specs.declared.remark.Remark.{Remark}
+use Rattle.kdf_yard.specs.Fields.Remarks.{note_of}
 use Rattle.kdf_theory.specs.Holders.{held_by}
 use Rattle.kdf_yard.specs.Fields.Parts.{Part, Seat, Reach, borrower, part_in, part_after, asked_after}
 use Rattle.kdf_places.specs.Shared.{Shared}
@@ -47,7 +47,7 @@ both_after q s o = both_of (seat_after q s o) (after_act q s o.act)
 
 -- a program tried its next order over what is shared, where these are the holders
 pub record HasTried (reach : Reach) (held : ℕ → Option ℕ) (m : Moment) (before : Seat) (s : Shared)
-    (after : Seat) (left : Shared) (ended : Step) (noted : Note) : Type 0 where
+    (after : Seat) (left : Shared) (ended : Step) (noted : Remark) : Type 0 where
   pub step : ended ≡ (outcome_over before reach (told before held m) s).step
   pub note : noted ≡ note_of (outcome_over before reach (told before held m) s).act
   pub program : after ≡ seat_after (part_in before reach) s (outcome_over before reach (told before held m) s)
@@ -55,7 +55,7 @@ pub record HasTried (reach : Reach) (held : ℕ → Option ℕ) (m : Moment) (be
 
 -- it did so, and if it is over then, it gave up the devices that it had from the pool
 pub record HasRun (reach : Reach) (held : ℕ → Option ℕ) (m : Moment) (before : Seat) (s : Shared)
-    (after : Seat) (left : Shared) (ended : Step) (noted : Note) : Type 0 where
+    (after : Seat) (left : Shared) (ended : Step) (noted : Remark) : Type 0 where
   pub step : ended ≡ (outcome_over before reach (told before held m) s).step
   pub note : noted ≡ note_of (outcome_over before reach (told before held m) s).act
   pub both : both_of after left
@@ -65,7 +65,7 @@ pub record HasRun (reach : Reach) (held : ℕ → Option ℕ) (m : Moment) (befo
 -- other's is as it was. A transfer is there where one was or began, and who has each device of the pool is as the note
 -- tells.
 pub record HasTurned (reaches : List Reach) (m : Moment) (i : ℕ) (before : List Seat) (s : Shared)
-    (after : List Seat) (left : Shared) (ended : Step) (noted : Note) : Type 0 where
+    (after : List Seat) (left : Shared) (ended : Step) (noted : Remark) : Type 0 where
   pub step : (asked : ℕ) → ended ≡ (outcome_at reaches before s m asked i).step
   pub note : (asked : ℕ) → noted ≡ note_of (outcome_at reaches before s m asked i).act
   pub own : (asked : ℕ) →
@@ -81,7 +81,7 @@ pub record HasTurned (reaches : List Reach) (m : Moment) (i : ℕ) (before : Lis
 
 -- program i of all tried its next order at this time, at which the service was heard where the order asked it
 pub record HasTriedAt (answers : ℕ → ℕ → Type 0) (reaches : List Reach) (time i : ℕ) (before : List Seat) (s : Shared)
-    (after : List Seat) (left : Shared) (ended : Step) (noted : Note) : Type 0 where
+    (after : List Seat) (left : Shared) (ended : Step) (noted : Remark) : Type 0 where
   pub heard : Option ℕ
   pub asked : HasAsked answers (word_over (seat_at before i) (reach_at reaches i) s) heard
   pub turned : HasTurned reaches (moment time (unwrap_or heard 0)) i before s after left ended noted

@@ -7,7 +7,7 @@ use Rattle.kdf_processor.specs.declared.step.Need.{Need}
 use Rattle.kdf_processor.specs.declared.step.Step.{Step}
 use Rattle.kdf_journal.specs.declared.entry.Entry.{Entry}
 use Rattle.kdf_yard.specs.declared.moment.Moment.{Moment}
-use Rattle.kdf_yard.specs.declared.note.Note.{Note}
+use Rattle.kdf_yard.specs.declared.remark.Remark.{Remark}
 use Rattle.kdf_yard.specs.Fields.Running.{AreLent, reach_at, seat_at}
 use Rattle.kdf_yard.specs.Fields.Batches.{of_seats, AreQuiet, HasBatch, HasTriedOn, HasTurnedOn, Passes}
 use Rattle.kdf_yard.specs.Fields.Going.{first_going, goes_at, AreNearHolds}
@@ -55,7 +55,7 @@ abbrev pub word_in : Standing → ℕ → Option ℕ
 word_in y i = word_over (seat_at y.seats i) (reach_at y.reaches i) y.shared
 
 -- program i obeyed n orders at a moment of which nothing is noted, past a place, and tried one more, which ended so
-abbrev pub HasTurnedIn : Moment → (i n : ℕ) → Option ℕ → (old new : Standing) → Step → Note → Type 0
+abbrev pub HasTurnedIn : Moment → (i n : ℕ) → Option ℕ → (old new : Standing) → Step → Remark → Type 0
 HasTurnedIn m i n place old new ended noted =
     HasBatch (of_seats i) place (HasTurnedOn old.reaches m i) n old.seats old.shared new.seats new.shared ended noted
 
@@ -65,7 +65,7 @@ HasTurnedQuietly m i n place old new =
     AreQuiet (Passes (of_seats i) place (HasTurnedOn old.reaches m i)) n old.seats old.shared new.seats new.shared
 
 -- the same at a time, at which the service was heard where an order asked it
-abbrev pub HasTriedIn : (answers : ℕ → ℕ → Type 0) → (time i n : ℕ) → Option ℕ → (old new : Standing) → Step → Note
+abbrev pub HasTriedIn : (answers : ℕ → ℕ → Type 0) → (time i n : ℕ) → Option ℕ → (old new : Standing) → Step → Remark
     → Type 0
 HasTriedIn answers time i n place old new ended noted =
     HasBatch (of_seats i) place (HasTriedOn answers old.reaches time i) n old.seats old.shared new.seats new.shared

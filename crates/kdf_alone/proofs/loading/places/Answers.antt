@@ -5,8 +5,8 @@ use Rattle.std.proofs.lemmas.List.Elements.{All-push}
 use Rattle.kdf_job.specs.Shows.{shown_device}
 use Rattle.kdf_job.specs.Slots.{fixture_on, lent_kind, numbered, progress_on}
 use Rattle.kdf_transfer.proofs.Numbers.{one_more, sixteen_numbers}
-use Rattle.kdf_alone.specs.declared.place.Place.{Place}
-use Rattle.kdf_alone.specs.Places.{own_fixture_in, pool_kind_in, progress_in, IsWhole}
+use Rattle.kdf_alone.specs.declared.lone_place.LonePlace.{LonePlace}
+use Rattle.kdf_alone.specs.LonePlaces.{own_fixture_in, pool_kind_in, progress_in, IsWhole}
 use Rattle.kdf_alone.specs.Stints.{IsUnlent}
 use Rattle.kdf_alone.proofs.loading.places.Goals as goal
 
@@ -17,8 +17,8 @@ loop-d-preserved c =
     let before = c.loop-d.places.items in
     let place = c.in_ok-place.field-0 in
     let items = c.in_ok-push.ensures.items in
-    let Q : List Place → Type 0 = All IsWhole in
-    let R : List Place → Type 0 = All IsUnlent in
+    let Q : List LonePlace → Type 0 = All IsWhole in
+    let R : List LonePlace → Type 0 = All IsUnlent in
     record {
       fixtures = one_more own_fixture_in (λ d. fixture_on (numbered devices d)) before c.push.new.self.items place c.loop-d.d c.loop-d.invariant.fixtures items
           c.in_ok-place.ensures.fixture;

@@ -2,7 +2,7 @@ use Rattle.std.proofs.Common.{◌≡◌, length, map}
 use Rattle.std.specs.List.{All, range_with_len}
 use Rattle.kdf_job.specs.Shows.{shown_device}
 use Rattle.kdf_job.specs.Slots.{fixture_on, lent_kind, numbered, progress_on}
-use Rattle.kdf_alone.specs.Places.{own_fixture_in, pool_kind_in, progress_in, IsWhole}
+use Rattle.kdf_alone.specs.LonePlaces.{own_fixture_in, pool_kind_in, progress_in, IsWhole}
 use Rattle.kdf_alone.specs.Stints.{IsUnlent}
 use Rattle.kdf_alone.proofs.loading.places.Given as goal
 

@@ -1,8 +1,8 @@
 use Rattle.std.proofs.Common.{ap, ◌∙◌}
 use Rattle.kdf_processor.specs.Outcome.{outcome}
 use Rattle.kdf_processor.specs.Row.{at_once}
-use Rattle.kdf_alone.specs.Bench.{shown}
-use Rattle.kdf_alone.specs.Bench.{given, stock_of}
+use Rattle.kdf_alone.specs.LonePort.{shown}
+use Rattle.kdf_alone.specs.LonePort.{given, stock_of}
 use Rattle.kdf_processor.proofs.Beside.{agrees_with}
 use Rattle.kdf_alone.proofs.Rows.{row_over, step_over}
 use Rattle.kdf_alone.proofs.obeying.obey_next.Goals as goal

@@ -1,10 +1,10 @@
 use Rattle.std.proofs.Common.{arith}
-use Rattle.kdf_arith.specs.Rows.{plain_row}
+use Rattle.kdf_arith.specs.Rows.{arith_row}
 use Rattle.kdf_arith.proofs.PutOn.{put_on}
 use Rattle.kdf_arith.proofs.values.plus_d.Goals as goal
 
 pub returns : goal.returns
-unfolding plain_row
+unfolding arith_row
 returns c =
     let value = rw (c.of.ensures, c.of-2.ensures) at c.add-sum.ensures.value in
     let flag = rw (c.of.ensures, c.of-2.ensures) at c.add-sum.ensures.overflow in

@@ -1,6 +1,6 @@
 use Rattle.std.proofs.Common.{◌≤◌, ℕ, List, [], Option, length, map, sym, subst, arith}
 use Rattle.kdf_job.specs.Shows.{shown_slot}
-use Rattle.kdf_job.specs.declared.job.SlotJob.{SlotJob as ReadSlot}
+use Rattle.kdf_job.specs.declared.job.SlotJob.{SlotJob}
 use Rattle.kdf_job.specs.WellFormed.{AreSlots}
 use Rattle.kdf_place.specs.declared.image.Image.{Image}
 use Rattle.kdf_schedule.specs.Calls.{order_count}
@@ -16,10 +16,10 @@ abbrev words_in : Image → List ℕ
 words_in x = x.words.items
 
 pub load-requires-clause-slots : goal.load-requires-clause-slots
-load-requires-clause-slots g c = subst (λ (ss : List ReadSlot). AreSlots (map shown_slot ss)) (sym c.deref.ensures.value) c.requires.job.slots
+load-requires-clause-slots g c = subst (λ (ss : List SlotJob). AreSlots (map shown_slot ss)) (sym c.deref.ensures.value) c.requires.job.slots
 
 pub load-requires-clause-images : goal.load-requires-clause-images
-load-requires-clause-images g c = subst (λ (ss : List ReadSlot). HaveImages (map shown_slot ss) (map words_in c.args.images.now)) (sym c.deref.ensures.value)
+load-requires-clause-images g c = subst (λ (ss : List SlotJob). HaveImages (map shown_slot ss) (map words_in c.args.images.now)) (sym c.deref.ensures.value)
     c.requires.images
 
 pub follow-requires : goal.follow-requires
@@ -29,7 +29,7 @@ follow-requires g c =
     let images = map words_in c.args.images.now in
     let programs = c.in_ok-programs.programs.items in
     let schedule = c.requires.job.schedule in
-    let kept = subst (λ (ss : List ReadSlot). (p : ℕ) → IsKeptAt (slots_of (map shown_slot ss) images) [] p (place_at programs p)) c.deref.ensures.value
+    let kept = subst (λ (ss : List SlotJob). (p : ℕ) → IsKeptAt (slots_of (map shown_slot ss) images) [] p (place_at programs p)) c.deref.ensures.value
     c.in_ok-programs.ensures.kept in
     let few_events : length es ≤ 500000 = schedule.few in
     let few : order_count es ≤ 20000000 = omega (arith, schedule.few_orders) in

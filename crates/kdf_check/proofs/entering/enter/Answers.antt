@@ -1,6 +1,6 @@
 use Rattle.std.proofs.Common.{◌≡◌, ◌+◌, ℕ, List, Option, Some, ap, ◌∙◌, refl, arith}
 use Rattle.kdf_journal.specs.Counts.{calls, calls_in, moves, moves_in}
-use Rattle.kdf_journal.specs.Steps.{held}
+use Rattle.kdf_journal.specs.Steps.{hold_entry}
 use Rattle.kdf_journal.specs.declared.entry.Entry.{Entry}
 use Rattle.kdf_journal.specs.declared.entry.Entry.TheVariants.{Ran, Fail, Ended}
 use Rattle.kdf_journal.specs.Joined.{pushed}
@@ -13,7 +13,7 @@ use Rattle.kdf_check.specs.Entered.{with_entry}
 use Rattle.kdf_check.proofs.entering.enter.Goals as goal
 
 -- a hold counts a call and no word
-held_counts : (p : ℕ) (need : Need) → (calls_in (held p (hold_of need)) ≡ 1) × (moves_in (held p (hold_of need)) ≡ 0)
+held_counts : (p : ℕ) (need : Need) → (calls_in (hold_entry p (hold_of need)) ≡ 1) × (moves_in (hold_entry p (hold_of need)) ≡ 0)
 held_counts p (Group group) = (refl, refl)
 held_counts p (Device d) = (refl, refl)
 held_counts p (Pool kind) = (refl, refl)

@@ -1,14 +1,14 @@
 use Rattle.std.proofs.Common.{◌≡◌, ◌-◌, ◌<◌, ◌≤◌, ℕ, List, [], Option, Some, drop, length, map, set, get_or, sym, ap, ◌∙◌, subst, arith}
 use Rattle.std.proofs.Math.ListN.{get_or-map}
 use Rattle.std.proofs.lemmas.List.{length-map, length-set}
-use Rattle.kdf_job.specs.Job.{SlotJob}
+use Rattle.kdf_job.specs.Job.{ShownSlot}
 use Rattle.kdf_job.specs.Shows.{shown_slot}
 use Rattle.kdf_job.specs.WellFormed.{AreSlots}
-use Rattle.kdf_job.specs.declared.job.SlotJob.{SlotJob as ReadSlot}
+use Rattle.kdf_job.specs.declared.job.SlotJob.{SlotJob}
 use Rattle.kdf_place.specs.declared.image.Image.{Image}
 use Rattle.kdf_alone.specs.Program.{IsApart}
 use Rattle.kdf_alone.proofs.Apart.{slot_apart}
-use Rattle.kdf_theory.specs.Loading.{HaveImages, load_of, slot_of, slots_of}
+use Rattle.kdf_theory.specs.Loading.{HaveImages, load_of, loaded_slot, slots_of}
 use Rattle.kdf_check.specs.declared.program.Program.{Program}
 use Rattle.kdf_check.specs.Begun.{IsBegun}
 use Rattle.kdf_check.specs.Keeps.{place_at, IsKeptAt}
@@ -18,9 +18,9 @@ use Rattle.kdf_check.proofs.load.load.Goals as goal
 abbrev words_in : Image → List ℕ
 words_in x = x.words.items
 
-module _ (slots : List ReadSlot) (images : List Image) (i : ℕ) (r : ReadSlot) (q : Image) (are : AreSlots (map shown_slot slots))
+module _ (slots : List SlotJob) (images : List Image) (i : ℕ) (r : SlotJob) (q : Image) (are : AreSlots (map shown_slot slots))
     (have : HaveImages (map shown_slot slots) (map words_in images)) (lt : i < length slots) (is : r ≡ get_or slots i r) (is' : q ≡ get_or images i q) where
-  jobs : List SlotJob
+  jobs : List ShownSlot
   jobs = map shown_slot slots
 
   at : shown_slot r ≡ get_or (map shown_slot slots) i (shown_slot r)
@@ -33,17 +33,17 @@ module _ (slots : List ReadSlot) (images : List Image) (i : ℕ) (r : ReadSlot) 
   inside = subst (λ n. i < n) (sym (length-map slots shown_slot)) lt
 
   number : r.p < 4
-  number = subst (λ (s : SlotJob). s.p < 4) (sym at) (are.each i (shown_slot r) inside).number
+  number = subst (λ (s : ShownSlot). s.p < 4) (sym at) (are.each i (shown_slot r) inside).number
 
   fits : length (words_in q) ≤ r.size
-  fits = subst (λ (s : SlotJob). length (words_in q) ≤ s.size) (sym at)
+  fits = subst (λ (s : ShownSlot). length (words_in q) ≤ s.size) (sym at)
       (subst (λ (w : List ℕ). length w ≤ (get_or (map shown_slot slots) i (shown_slot r)).size) (sym at')
       (fits_at (map shown_slot slots) (map words_in images) i (shown_slot r) (words_in q) have inside))
 
   apart : IsApart (shown_slot r)
   apart = subst IsApart (sym at) (slot_apart (map shown_slot slots) i (shown_slot r) inside are)
 
-there : (slots : List ReadSlot) (images : List Image) (i : ℕ) → HaveImages (map shown_slot slots) (map words_in images) → i < length slots → i < length images
+there : (slots : List SlotJob) (images : List Image) (i : ℕ) → HaveImages (map shown_slot slots) (map words_in images) → i < length slots → i < length images
 there slots images i have lt = omega (
   arith,
   same_count (map shown_slot slots) (map words_in images) have,
@@ -53,7 +53,7 @@ there slots images i have lt = omega (
 )
 
 -- a slot more
-module _ (slots : List ReadSlot) (images : List Image) (i n : ℕ) (r : ReadSlot) (q : Image) (are : AreSlots (map shown_slot slots))
+module _ (slots : List SlotJob) (images : List Image) (i n : ℕ) (r : SlotJob) (q : Image) (are : AreSlots (map shown_slot slots))
     (have : HaveImages (map shown_slot slots) (map words_in images)) (some : 0 < i) (le : i ≤ length slots)
     (is : r ≡ get_or slots (i - 1) r) (is' : q ≡ get_or images (i - 1) q) (programs : List (Option Program)) (four : length programs ≡ 4) (at-n : n ≡ r.p) where
   lt : i - 1 < length slots
@@ -62,7 +62,7 @@ module _ (slots : List ReadSlot) (images : List Image) (i n : ℕ) (r : ReadSlot
   placed : n < length programs
   placed = omega (arith, four, at-n, number slots images (i - 1) r q are have lt is is')
 
-  more : (x : Program) → IsBegun (slot_of (load_of (shown_slot r) (words_in q))) x
+  more : (x : Program) → IsBegun (loaded_slot (load_of (shown_slot r) (words_in q))) x
       → ((p : ℕ) → IsKeptAt (slots_of (drop i (map shown_slot slots)) (drop i (map words_in images))) [] p (place_at programs p))
       → (p : ℕ) → IsKeptAt (slots_of (drop (i - 1) (map shown_slot slots)) (drop (i - 1) (map words_in images))) [] p (place_at (set programs n (Some x)) p)
   more x begun each =

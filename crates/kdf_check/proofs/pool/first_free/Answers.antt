@@ -1,5 +1,5 @@
 use Rattle.std.proofs.Common.{rules}
-use Rattle.kdf_alone.specs.Bench.{claims_of}
+use Rattle.kdf_alone.specs.LonePort.{claims_of}
 use Rattle.kdf_check.specs.Around.{free_in, holders_by, is_free_in}
 use Rattle.kdf_check.proofs.pool.first_free.Goals as goal
 

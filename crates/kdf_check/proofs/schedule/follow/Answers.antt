@@ -1,7 +1,7 @@
 use Rattle.std.specs.List.{All}
 use Rattle.std.proofs.Common.{◌+◌, ◌*◌, ◌≤◌, ℕ, List, [], length, sym, ap, ◌∙◌, subst, arith}
 use Rattle.kdf_journal.specs.Counts.{calls, clock, moves}
-use Rattle.kdf_journal.specs.Steps.{Step, steps}
+use Rattle.kdf_journal.specs.Steps.{JournalStep, steps}
 use Rattle.kdf_journal.proofs.Steps.{steps-nil}
 use Rattle.kdf_schedule.specs.declared.event.Event.{Event}
 use Rattle.kdf_schedule.specs.Calls.{calls_made, order_count}
@@ -40,6 +40,7 @@ returns g c =
       whole =
           reach-whole (lone_dispatched g.slots) (calls_made es) K keeps.legal.in_form
           (subst (λ (fs : List Event). Reaches (lone_dispatched g.slots) [] (calls_made fs) (steps K)) c.deref.ensures.value
-          (subst (λ (P : List Step). Reaches (lone_dispatched g.slots) P (calls_made c.deref.result.now) (steps K)) (ap steps c.requires.1.1.0 ∙ steps-nil)
+          (subst (λ (P : List JournalStep). Reaches (lone_dispatched g.slots) P (calls_made c.deref.result.now) (steps K))
+          (ap steps c.requires.1.1.0 ∙ steps-nil)
           c.in_ok-follow_each.ensures.steps));
     }

@@ -1,4 +1,4 @@
-use Rattle.kdf_check.proofs.Desks.{order_then, tried_by}
+use Rattle.kdf_check.proofs.CheckPorts.{order_then, tried_by}
 use Rattle.kdf_check.proofs.trying.obey_next.Goals as goal
 
 pub returns-clause-tried : goal.returns-clause-tried

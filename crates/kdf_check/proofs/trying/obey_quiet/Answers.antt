@@ -1,10 +1,10 @@
 use Rattle.std.proofs.Common.{◌≡◌, None, refl, sym, ap, ◌∙◌, subst, arith}
 use Rattle.kdf_processor.specs.declared.step.Step.TheVariants.{Done}
 use Rattle.kdf_processor.specs.Buffered.{Agrees}
-use Rattle.kdf_alone.specs.Bench.{stock_of}
-use Rattle.kdf_check.specs.Desk.{shown}
-use Rattle.kdf_check.specs.declared.desk.Desk.{Desk}
-use Rattle.kdf_check.proofs.Desks.{same_same}
+use Rattle.kdf_alone.specs.LonePort.{stock_of}
+use Rattle.kdf_check.specs.CheckPort.{shown}
+use Rattle.kdf_check.specs.declared.check_port.CheckPort.{CheckPort}
+use Rattle.kdf_check.proofs.CheckPorts.{same_same}
 use Rattle.kdf_check.proofs.Quiet.{TriedAt, last_at, next_at, next_ran, stopped_at, unchanged}
 use Rattle.kdf_check.proofs.trying.obey_quiet.Goals as goal
 
@@ -47,7 +47,7 @@ loop-desk-preserved-in-Some c =
       at = next_at _ was.desk new.desk _ was.registers new.registers was.done i.at same tried none c.pass.new.self c.pass.ensures;
       few = omega arith;
       ran = omega (arith, i.ran, ran);
-      agrees = subst (λ (d : Desk). Agrees (shown d) new.held) (sym c.pass.ensures) c.obey_at_hand.ensures.agrees;
+      agrees = subst (λ (d : CheckPort). Agrees (shown d) new.held) (sym c.pass.ensures) c.obey_at_hand.ensures.agrees;
     }
 
 pub returns-then-done-most-2-clause-tried : goal.returns-then-done-most-2-clause-tried
@@ -79,7 +79,7 @@ loop-desk-preserved c =
       at = next_at _ was.desk new.desk _ was.registers new.registers was.done i.at here.0 here.1 none v c.pass-in-Ok-Done.ensures;
       few = omega arith;
       ran = omega (arith, i.ran, ran);
-      agrees = subst (λ (d : Desk). Agrees (shown d) new.held) (sym c.pass-in-Ok-Done.ensures) c.obey_next.ensures.agrees;
+      agrees = subst (λ (d : CheckPort). Agrees (shown d) new.held) (sym c.pass-in-Ok-Done.ensures) c.obey_next.ensures.agrees;
     }
 
 pub returns-in-Ok : goal.returns-in-Ok
@@ -105,4 +105,4 @@ returns-in-Err-clause-err c =
     let new = c.obey_next.new in
     let still = c.in-Err.ensures.err in
     stopped_at _ was.desk new.desk _ was.registers new.registers was.done was.invariant.at
-    (still.0 ∙ left.0) (still.1 ∙ ap (λ (d : Desk). stock_of d.bench.now) left.1)
+    (still.0 ∙ left.0) (still.1 ∙ ap (λ (d : CheckPort). stock_of d.bench.now) left.1)

@@ -1,6 +1,6 @@
 use Rattle.std.proofs.Common.{◌+◌, ◌-◌, ◌<◌, ◌≤◌}
 use Rattle.kdf_processor.specs.Buffered.{Agrees}
-use Rattle.kdf_check.specs.Desk.{shown}
+use Rattle.kdf_check.specs.CheckPort.{shown}
 use Rattle.kdf_check.proofs.Quiet.{IsAt}
 use Rattle.kdf_check.proofs.trying.obey_quiet.Given as goal
 

@@ -1,18 +1,18 @@
 use Rattle.std.proofs.Common.{◌≡◌, ℕ, List, Option, sym, ap, subst, ◌∙◌}
 use Rattle.kdf_theory.proofs.Results.{if_ok, on_err}
-use Rattle.kdf_alone.specs.declared.bench.Bench.{Bench}
+use Rattle.kdf_alone.specs.declared.lone_port.LonePort.{LonePort}
 use Rattle.kdf_check.specs.Around.{Around}
 use Rattle.kdf_check.specs.Batches.{HasBatch, HasStopped}
 use Rattle.kdf_check.specs.declared.table.Pending.{Pending}
 use Rattle.kdf_check.proofs.trying.try_orders.Goals as goal
 
--- what was lent is what the desk has, at first and in the end
-over : (P : ℕ → Around → Bench → Bench → List (Option Pending) → Type 0) {p q : ℕ} {a b : Around} {first now left new : Bench}
+-- what was lent is what the check port has, at first and in the end
+over : (P : ℕ → Around → LonePort → LonePort → List (Option Pending) → Type 0) {p q : ℕ} {a b : Around} {first now left new : LonePort}
     {table places : List (Option Pending)} → q ≡ p → b ≡ a → now ≡ first → new ≡ left → places ≡ table → P q b now left table → P p a first new places
 over P {p} {q} {a} {b} {first} {now} {left} {new} {table} {places} p_is around_is bench_is bench_back table_back h =
     subst (λ (t : List (Option Pending)). P p a first new t) (sym table_back)
-    (subst (λ (k : Bench). P p a first k table) (sym bench_back)
-    (subst (λ (k : Bench). P p a k left table) bench_is
+    (subst (λ (k : LonePort). P p a first k table) (sym bench_back)
+    (subst (λ (k : LonePort). P p a k left table) bench_is
     (subst (λ (x : Around). P p x now left table) around_is
     (subst (λ (k : ℕ). P k b now left table) p_is h))))
 

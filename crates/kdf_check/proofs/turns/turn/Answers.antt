@@ -1,7 +1,7 @@
 use Rattle.std.specs.Prelude.{IfOk}
 use Rattle.std.proofs.Common.{◌≡◌, ℕ, true, Ok, Result, refl, sym, ap, ◌∙◌, subst, arith}
 use Rattle.kdf_processor.specs.State.{State}
-use Rattle.kdf_alone.specs.declared.bench.Bench.{Bench}
+use Rattle.kdf_alone.specs.declared.lone_port.LonePort.{LonePort}
 use Rattle.kdf_theory.specs.ByJournal.{own}
 use Rattle.kdf_check.specs.Entered.{IsNote}
 use Rattle.kdf_check.proofs.Entries.{note_is}
@@ -23,7 +23,7 @@ returns-clause-turned g c =
     let J = c.args.journal.now.entries in
     let x = c.args.program.now in
     let t = c.args.table.now.places in
-    let heard = c.heard-answer in
+    let heard = c.service_answer-answer in
     let h = c.unwrap_or-heard.result in
     let left = c.try_orders-quiet.new in
     let quiet = c.try_orders-quiet.result.0 in
@@ -34,7 +34,7 @@ returns-clause-turned g c =
     c.in_ok-ending.ending c.in_ok-ending.entry heard.ensures.bench (ap (λ u. u.places) heard.ensures.table)
     (known _ c.try_orders-quiet.result.1 (c.in_ok-ending.ending, c.in_ok-ending.entry) c.in_ok-ending.was c.try_orders-quiet.ensures.tried) in
     let served_is : heard.new.bench.served ≡ s.stock.claims.served =
-    ap (λ (k : Bench). k.served) heard.ensures.bench ∙ ap (λ (y : State). y.stock.claims.served) posed.own_is in
+    ap (λ (k : LonePort). k.served) heard.ensures.bench ∙ ap (λ (y : State). y.stock.claims.served) posed.own_is in
     let few : s.stock.claims.served ≡ true → quiet ≡ 0 = λ served.
     let one = c.batch_of-batch.ensures.served (served_is ∙ served) in
     let less = c.try_orders-quiet.ensures.within in

@@ -1,9 +1,9 @@
 use Rattle.std.proofs.Common.{ap, ap₂, ◌∙◌}
 use Rattle.kdf_processor.specs.Ahead.{act_word}
 use Rattle.kdf_processor.specs.Outcome.{outcome}
-use Rattle.kdf_alone.specs.Bench.{stock_of}
+use Rattle.kdf_alone.specs.LonePort.{stock_of}
 use Rattle.kdf_check.specs.Around.{around_by}
-use Rattle.kdf_check.specs.Desk.{shown_by}
+use Rattle.kdf_check.specs.CheckPort.{shown_by}
 use Rattle.kdf_check.proofs.turns.word_asked.Goals as goal
 
 pub returns-clause-asked : goal.returns-clause-asked

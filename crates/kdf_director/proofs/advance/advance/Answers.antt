@@ -1,7 +1,7 @@
 use Rattle.std.proofs.Common.{◌≡◌, ℕ, ◌≤◌, List, cond, ap, ◌∙◌, sym, subst, arith}
 use Rattle.kdf_journal.specs.Counts.{calls, moves}
 use Rattle.kdf_journal.specs.declared.entry.Entry.{Entry}
-use Rattle.kdf_journal.specs.declared.entry.Entry.TheVariants.{Idle as Idled}
+use Rattle.kdf_journal.specs.declared.entry.Entry.TheVariants.{Idle}
 use Rattle.kdf_journal.specs.Joined.{pushed}
 use Rattle.kdf_director.specs.declared.machine.Progress.{Progress}
 use Rattle.kdf_yard.specs.Fields.Yards.{any_in}
@@ -42,7 +42,7 @@ returns-in_ok-reserve-in-None-clause-ready g c =
     c.args.due.now.most c.requires.some c.requires.few
     (sym c.next_of.ensures ∙ c.in-None.is)
     c.wait.new.journal.spare (omega (arith, c.in_ok-reserve-in-None.ensures.room, c.wait.ensures.spare)) c.wait.new.journal.entries c.wait.result
-    (subst (λ (J : List Entry). c.wait.new.journal.entries ≡ cond (any_in c.args.yard.now) (pushed J (Idled c.args.due.now.most)) J) c.reserve.ensures.entries
+    (subst (λ (J : List Entry). c.wait.new.journal.entries ≡ cond (any_in c.args.yard.now) (pushed J (Idle c.args.due.now.most)) J) c.reserve.ensures.entries
     c.wait.ensures.entries)
     c.wait.ensures.answer).0
 
@@ -52,7 +52,7 @@ returns-in_ok-reserve-in-None-clause-made g c =
     c.args.due.now.most c.requires.some c.requires.few
     (sym c.next_of.ensures ∙ c.in-None.is)
     c.wait.new.journal.spare (omega (arith, c.in_ok-reserve-in-None.ensures.room, c.wait.ensures.spare)) c.wait.new.journal.entries c.wait.result
-    (subst (λ (J : List Entry). c.wait.new.journal.entries ≡ cond (any_in c.args.yard.now) (pushed J (Idled c.args.due.now.most)) J) c.reserve.ensures.entries
+    (subst (λ (J : List Entry). c.wait.new.journal.entries ≡ cond (any_in c.args.yard.now) (pushed J (Idle c.args.due.now.most)) J) c.reserve.ensures.entries
     c.wait.ensures.entries)
     c.wait.ensures.answer).1
 

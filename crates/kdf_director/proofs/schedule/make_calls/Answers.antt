@@ -4,7 +4,7 @@ use Rattle.kdf_journal.specs.Steps.{Moves, Ends, Sets, Swaps}
 use Rattle.kdf_schedule.specs.Calls.{AMove, AnEnd, AClock, ASwap, orders_in}
 use Rattle.kdf_schedule.specs.Events.{IsInRange}
 use Rattle.kdf_theory.specs.Follows.{entries_in}
-use Rattle.kdf_theory.specs.Shown.{Shown}
+use Rattle.kdf_theory.specs.MachineView.{MachineView}
 use Rattle.kdf_director.proofs.Calls.OneCall.{entered_on, calls-entered, clock-entered, true_entered}
 use Rattle.kdf_director.proofs.schedule.make_calls.Goals as goal
 
@@ -93,40 +93,40 @@ move_words-requires-clause-room g c = let few = subst (λ e. entries_in e ≤ c.
 
 pub returns-in-Move-clause-room : goal.returns-in-Move-clause-room
 returns-in-Move-clause-room g c = let few = subst (λ e. entries_in e ≤ c.args.machine.now.room) c.in-Move.is c.requires.room in rw c.in-Move.is
-    (omega (arith, few, ap (λ (m : Shown). m.room) c.move_words.ensures.entered))
+    (omega (arith, few, ap (λ (m : MachineView). m.room) c.move_words.ensures.entered))
 
 pub returns-in-Move-clause-slots : goal.returns-in-Move-clause-slots
-returns-in-Move-clause-slots g c = ap (λ (m : Shown). m.slots) c.move_words.ensures.entered
+returns-in-Move-clause-slots g c = ap (λ (m : MachineView). m.slots) c.move_words.ensures.entered
 
 pub end-requires-clause-room : goal.end-requires-clause-room
 end-requires-clause-room g c = let few = subst (λ e. entries_in e ≤ c.args.machine.now.room) c.in-End.is c.requires.room in omega (arith, few)
 
 pub returns-in-End-clause-room : goal.returns-in-End-clause-room
 returns-in-End-clause-room g c = let few = subst (λ e. entries_in e ≤ c.args.machine.now.room) c.in-End.is c.requires.room in rw c.in-End.is
-    (omega (arith, few, ap (λ (m : Shown). m.room) c.end.ensures.entered))
+    (omega (arith, few, ap (λ (m : MachineView). m.room) c.end.ensures.entered))
 
 pub returns-in-End-clause-slots : goal.returns-in-End-clause-slots
-returns-in-End-clause-slots g c = ap (λ (m : Shown). m.slots) c.end.ensures.entered
+returns-in-End-clause-slots g c = ap (λ (m : MachineView). m.slots) c.end.ensures.entered
 
 pub clock-requires-clause-room : goal.clock-requires-clause-room
 clock-requires-clause-room g c = let few = subst (λ e. entries_in e ≤ c.args.machine.now.room) c.in-Clock.is c.requires.room in omega (arith, few)
 
 pub returns-in-Clock-clause-room : goal.returns-in-Clock-clause-room
 returns-in-Clock-clause-room g c = let few = subst (λ e. entries_in e ≤ c.args.machine.now.room) c.in-Clock.is c.requires.room in rw c.in-Clock.is
-    (omega (arith, few, ap (λ (m : Shown). m.room) c.clock.ensures.entered))
+    (omega (arith, few, ap (λ (m : MachineView). m.room) c.clock.ensures.entered))
 
 pub returns-in-Clock-clause-slots : goal.returns-in-Clock-clause-slots
-returns-in-Clock-clause-slots g c = ap (λ (m : Shown). m.slots) c.clock.ensures.entered
+returns-in-Clock-clause-slots g c = ap (λ (m : MachineView). m.slots) c.clock.ensures.entered
 
 pub swap-requires-clause-room : goal.swap-requires-clause-room
 swap-requires-clause-room g c = let few = subst (λ e. entries_in e ≤ c.args.machine.now.room) c.in-Swap.is c.requires.room in omega (arith, few)
 
 pub returns-in-Swap-clause-room : goal.returns-in-Swap-clause-room
 returns-in-Swap-clause-room g c = let few = subst (λ e. entries_in e ≤ c.args.machine.now.room) c.in-Swap.is c.requires.room in rw c.in-Swap.is
-    (omega (arith, few, ap (λ (m : Shown). m.room) c.swap.ensures.entered))
+    (omega (arith, few, ap (λ (m : MachineView). m.room) c.swap.ensures.entered))
 
 pub returns-in-Swap-clause-slots : goal.returns-in-Swap-clause-slots
-returns-in-Swap-clause-slots g c = ap (λ (m : Shown). m.slots) c.swap.ensures.entered
+returns-in-Swap-clause-slots g c = ap (λ (m : MachineView). m.slots) c.swap.ensures.entered
 
 pub orders_with-requires-clause-service : goal.orders_with-requires-clause-service
 orders_with-requires-clause-service g c = c.requires.service

@@ -2,7 +2,7 @@ use Rattle.std.proofs.Common.{ℕ, length, List, refl, sym, ap, subst, ◌∙◌
 use Rattle.std.proofs.lemmas.Result.{err_from_is_err_and}
 use Rattle.kdf_text.specs.Ahead.{ahead}
 use Rattle.kdf_text.specs.Text.{text}
-use Rattle.kdf_job.specs.Draft.{Draft, blank}
+use Rattle.kdf_job.specs.Draft.{ShownDraft, blank}
 use Rattle.kdf_job.specs.Front.{lines_to_end}
 use Rattle.kdf_job.specs.Lengths.{weight}
 use Rattle.kdf_job.specs.Reading.{Says, draft_of, fault_from}
@@ -20,7 +20,7 @@ loop-alloc-init c =
     let made = c.new-lines.ensures in
     record {
       fault = ap (fault_from 1 blank) all ∙ rw (made.number, begin.shown) refl;
-      job = ap (draft_of blank) all ∙ ap (λ (x : Draft). draft_of x (lines_to_end d.place (ahead at))) (sym begin.shown);
+      job = ap (draft_of blank) all ∙ ap (λ (x : ShownDraft). draft_of x (lines_to_end d.place (ahead at))) (sym begin.shown);
       offset = let e = ap (λ (ls : List (List ℕ)). length (text ls)) all in omega arith;
       most = omega arith;
       within = λ more. let l = ap (λ (bs : List ℕ). length bs) made.rest in omega arith;

@@ -1,4 +1,4 @@
-use Rattle.kdf_job.specs.declared.place.Place.TheVariants.{InSchedule}
+use Rattle.kdf_job.specs.declared.line_place.LinePlace.TheVariants.{InSchedule}
 use Rattle.kdf_job.specs.More.{scheduled}
 use Rattle.kdf_job.proofs.Passing.{reads, stops}
 use Rattle.kdf_job.proofs.more.read_schedule_line.Goals as goal

@@ -1,8 +1,8 @@
 use Rattle.std.proofs.Common.{ℕ, ◌++◌, List, sym, ap, subst, ◌∙◌, append-nil, rules}
 use Rattle.std.proofs.lemmas.Result.{err_from_is_err_and}
 use Rattle.kdf_text.specs.Ahead.{ahead}
-use Rattle.kdf_job.specs.declared.place.Place.{Place}
-use Rattle.kdf_job.specs.declared.place.Place.TheVariants.{InSchedule}
+use Rattle.kdf_job.specs.declared.line_place.LinePlace.{LinePlace}
+use Rattle.kdf_job.specs.declared.line_place.LinePlace.TheVariants.{InSchedule}
 use Rattle.kdf_job.specs.More.{events_in, scheduled}
 use Rattle.kdf_job.specs.Reading.{Says, fault_from}
 use Rattle.kdf_job.proofs.Fronts.{some_to_end}
@@ -22,7 +22,7 @@ loop-place-preserved c =
     let at = in_schedule here.place here.invariant.stands some.1 in
     record {
       fault = here.invariant.fault
-          ∙ ap (λ (x : Place). fault_from here.lines.number (scheduled x es) (ahead here.lines)) at
+          ∙ ap (λ (x : LinePlace). fault_from here.lines.number (scheduled x es) (ahead here.lines)) at
           ∙ passed_fault here.lines next.lines (scheduled InSchedule es) (scheduled place more) read.reads;
       events = here.invariant.events ∙ events_on here.lines next.lines es more place read.reads;
       stands = (read_goes es more place _ read.reads.read).stands;
@@ -38,7 +38,7 @@ returns-in_err-place-clause-fault c =
     let some = some_to_end here.lines here.place c.goes_on.result c.goes_on.ensures (search rules) in
     let at = in_schedule here.place here.invariant.stands some.1 in
     let says = stopped here.lines (scheduled InSchedule es) e some.0 c.in_err-place.ensures.stop in
-    let all = here.invariant.fault ∙ ap (λ (x : Place). fault_from here.lines.number (scheduled x es) (ahead here.lines)) at in
+    let all = here.invariant.fault ∙ ap (λ (x : LinePlace). fault_from here.lines.number (scheduled x es) (ahead here.lines)) at in
     rw (p.1, p.2) (subst (Says e) (sym all) says)
 
 pub returns-then-is_over-clause-ok : goal.returns-then-is_over-clause-ok

@@ -1,6 +1,6 @@
 use Rattle.std.proofs.Common.{◌≡◌, ◌++◌, length}
 use Rattle.kdf_text.specs.Ahead.{ahead}
-use Rattle.kdf_job.specs.declared.place.Place.TheVariants.{InSchedule}
+use Rattle.kdf_job.specs.declared.line_place.LinePlace.TheVariants.{InSchedule}
 use Rattle.kdf_job.specs.More.{events_in, scheduled}
 use Rattle.kdf_job.specs.Reading.{fault_from}
 use Rattle.kdf_job.specs.WellFormed.{IsSchedule}

@@ -2,7 +2,7 @@ use Rattle.std.proofs.Common.{◌≡◌, ℕ, ◌<◌, true, eqb, length, None, 
 use Rattle.std.specs.Prelude.{IfErr, IfOk, OnOk}
 use Rattle.std.proofs.lemmas.Result.{err_from_is_err_and}
 use Rattle.kdf_job.specs.declared.fault.JobFault.{JobFault}
-use Rattle.kdf_job.specs.Job.{Job}
+use Rattle.kdf_job.specs.Job.{ShownJob}
 use Rattle.kdf_job.specs.Reading.{Says}
 use Rattle.kdf_job.specs.Shows.{shown_draft, shown_job}
 use Rattle.kdf_job.proofs.Passing.{fault_ends, job_ends, job_read, passed_fault, passed_job, stopped}
@@ -47,5 +47,5 @@ pub returns-clause-shown : goal.returns-clause-shown
 returns-clause-shown c =
     let here = c.loop-lines in
     let none : eqb (length here.lines.rest.now) 0 ≡ true = search rules in
-    subst (λ (x : Job). IfOk c.finish.result (λ j. shown_job j ≡ x))
+    subst (λ (x : ShownJob). IfOk c.finish.result (λ j. shown_job j ≡ x))
     (sym (job_ends c.args.bytes.now here.lines (shown_draft here.draft) here.invariant.job none)) c.finish.ensures.shown

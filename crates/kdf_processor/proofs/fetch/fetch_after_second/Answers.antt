@@ -1,7 +1,7 @@
 use Rattle.std.proofs.Common.{◌≡◌, ◌≢◌, sym, ◌∙◌, ap, rules}
 use Rattle.kdf_processor.proofs.Syllables.{order_of_two, order_of_three, size_of_three}
 use Rattle.kdf_processor.specs.Fetch.{syllable_read}
-use Rattle.kdf_processor.specs.Table.{on}
+use Rattle.kdf_processor.specs.Table.{syllable_after}
 use Rattle.kdf_processor.specs.declared.fetch.Syllable.TheVariants.{Byte}
 use Rattle.kdf_processor.proofs.fetch.fetch_after_second.Goals as goal
 
@@ -17,8 +17,8 @@ returns-then-size-eq2 g c =
 pub returns-in-Byte : goal.returns-in-Byte
 returns-in-Byte g c =
     let v = g.P.Port.shows c.args.port.now in
-    let third : Byte c.in-Byte.third ≡ syllable_read v (on (on c.args.at 1) 1) =
-    sym c.in-Byte.is ∙ c.read_syllable.ensures ∙ ap (syllable_read v) (c.behind-2.ensures ∙ ap (λ m. on m 1) c.behind.ensures) in
+    let third : Byte c.in-Byte.third ≡ syllable_read v (syllable_after (syllable_after c.args.at 1) 1) =
+    sym c.in-Byte.is ∙ c.read_syllable.ensures ∙ ap (syllable_read v) (c.syllable_after-2.ensures ∙ ap (λ m. syllable_after m 1) c.syllable_after.ensures) in
     let shorter : c.size_of_first-size.result ≢ 1 = λ one. c.requires.longer (sym c.size_of_first-size.ensures.value ∙ one) in
     let size = size_of_three c.args.first c.size_of_first-size.result c.size_of_first-size.ensures.value shorter c.if-size-eq2.false in
     record {

@@ -2,7 +2,7 @@ use Rattle.std.proofs.Common.{subst, sym, refl, [], ◌≡◌, None, map}
 use Rattle.kdf_processor.specs.declared.plan.Plan.{Plan}
 use Rattle.kdf_processor.specs.declared.step.Need.TheVariants.{Group}
 use Rattle.kdf_processor.specs.Needs.{effect_needs, group_of}
-use Rattle.kdf_processor.specs.Outcome.{Obeyed}
+use Rattle.kdf_processor.specs.Outcome.{CameTo}
 use Rattle.kdf_processor.specs.Plan.{planned, done_plan, IsSound, HasOperands}
 use Rattle.kdf_processor.specs.View.{first_pending, groups_of, order_groups}
 use Rattle.kdf_processor.proofs.Pending.{none_out, none_out_behind, idle_behind, free_group}
@@ -60,7 +60,7 @@ keep_word-requires-clause-room g c =
 
 pub returns-in-Keep : goal.returns-in-Keep
 returns-in-Keep g c =
-    subst (λ (p : Plan). Obeyed g.P.Port.acts (done_plan (g.P.Port.shows c.args.port.now) c.args.registers.now p) c.args.port.now c.keep_word.new.port
+    subst (λ (p : Plan). CameTo g.P.Port.acts (done_plan (g.P.Port.shows c.args.port.now) c.args.registers.now p) c.args.port.now c.keep_word.new.port
     c.keep_word.new.registers c.keep_word.result) (sym c.in-Keep.is) c.keep_word.ensures
 
 pub count_orders-requires-clause-ran : goal.count_orders-requires-clause-ran
@@ -103,7 +103,7 @@ begin-requires-clause-room g c =
 
 pub returns-in-Begin : goal.returns-in-Begin
 returns-in-Begin g c =
-    subst (λ (p : Plan). Obeyed g.P.Port.acts (done_plan (g.P.Port.shows c.args.port.now) c.args.registers.now p) c.args.port.now c.begin.new.port
+    subst (λ (p : Plan). CameTo g.P.Port.acts (done_plan (g.P.Port.shows c.args.port.now) c.args.registers.now p) c.args.port.now c.begin.new.port
     c.begin.new.registers c.begin.result) (sym c.in-Begin.is) c.begin.ensures
 
 pub examine-requires-clause-ran : goal.examine-requires-clause-ran
@@ -135,7 +135,7 @@ ask_busy-requires-clause-room g c =
 
 pub returns-in-AskBusy : goal.returns-in-AskBusy
 returns-in-AskBusy g c =
-    subst (λ (p : Plan). Obeyed g.P.Port.acts (done_plan (g.P.Port.shows c.args.port.now) c.args.registers.now p) c.args.port.now c.ask_busy.new.port
+    subst (λ (p : Plan). CameTo g.P.Port.acts (done_plan (g.P.Port.shows c.args.port.now) c.args.registers.now p) c.args.port.now c.ask_busy.new.port
     c.ask_busy.new.registers c.ask_busy.result) (sym c.in-AskBusy.is) c.ask_busy.ensures
 
 pub ask_area-requires-clause-ran : goal.ask_area-requires-clause-ran
@@ -152,7 +152,7 @@ ask_area-requires-clause-room g c =
 
 pub returns-in-AskArea : goal.returns-in-AskArea
 returns-in-AskArea g c =
-    subst (λ (p : Plan). Obeyed g.P.Port.acts (done_plan (g.P.Port.shows c.args.port.now) c.args.registers.now p) c.args.port.now c.ask_area.new.port
+    subst (λ (p : Plan). CameTo g.P.Port.acts (done_plan (g.P.Port.shows c.args.port.now) c.args.registers.now p) c.args.port.now c.ask_area.new.port
     c.ask_area.new.registers c.ask_area.result) (sym c.in-AskArea.is) c.ask_area.ensures
 
 pub ask_time-requires-clause-ran : goal.ask_time-requires-clause-ran
@@ -169,7 +169,7 @@ ask_time-requires-clause-room g c =
 
 pub returns-in-AskTime : goal.returns-in-AskTime
 returns-in-AskTime g c =
-    subst (λ (p : Plan). Obeyed g.P.Port.acts (done_plan (g.P.Port.shows c.args.port.now) c.args.registers.now p) c.args.port.now c.ask_time.new.port
+    subst (λ (p : Plan). CameTo g.P.Port.acts (done_plan (g.P.Port.shows c.args.port.now) c.args.registers.now p) c.args.port.now c.ask_time.new.port
     c.ask_time.new.registers c.ask_time.result) (sym c.in-AskTime.is) c.ask_time.ensures
 
 pub ask_service-requires-clause-ran : goal.ask_service-requires-clause-ran
@@ -191,7 +191,7 @@ ask_service-requires-clause-room g c =
 
 pub returns-in-AskService : goal.returns-in-AskService
 returns-in-AskService g c =
-    subst (λ (p : Plan). Obeyed g.P.Port.acts (done_plan (g.P.Port.shows c.args.port.now) c.args.registers.now p) c.args.port.now c.ask_service.new.port
+    subst (λ (p : Plan). CameTo g.P.Port.acts (done_plan (g.P.Port.shows c.args.port.now) c.args.registers.now p) c.args.port.now c.ask_service.new.port
     c.ask_service.new.registers c.ask_service.result) (sym c.in-AskService.is) c.ask_service.ensures
 
 pub give_back-requires-clause-ran : goal.give_back-requires-clause-ran
@@ -219,7 +219,7 @@ give_back-requires-clause-room g c =
 
 pub returns-in-GiveBack : goal.returns-in-GiveBack
 returns-in-GiveBack g c =
-    subst (λ (p : Plan). Obeyed g.P.Port.acts (done_plan (g.P.Port.shows c.args.port.now) c.args.registers.now p) c.args.port.now c.give_back.new.port
+    subst (λ (p : Plan). CameTo g.P.Port.acts (done_plan (g.P.Port.shows c.args.port.now) c.args.registers.now p) c.args.port.now c.give_back.new.port
     c.give_back.new.registers c.give_back.result) (sym c.in-GiveBack.is) c.give_back.ensures
 
 pub spool-requires-clause-ran : goal.spool-requires-clause-ran
@@ -253,28 +253,28 @@ spool-requires-clause-room g c =
 
 pub returns-in-Spool : goal.returns-in-Spool
 returns-in-Spool g c =
-    subst (λ (p : Plan). Obeyed g.P.Port.acts (done_plan (g.P.Port.shows c.args.port.now) c.args.registers.now p) c.args.port.now c.spool.new.port
+    subst (λ (p : Plan). CameTo g.P.Port.acts (done_plan (g.P.Port.shows c.args.port.now) c.args.registers.now p) c.args.port.now c.spool.new.port
     c.spool.new.registers c.spool.result) (sym c.in-Spool.is) c.spool.ensures
 
 pub returns-in-Fail : goal.returns-in-Fail
 returns-in-Fail g c =
     let port = c.args.port.now in
     let r = c.args.registers.now in
-    subst (λ (p : Plan). Obeyed g.P.Port.acts (done_plan (g.P.Port.shows port) r p) port port c.fail.new.registers c.fail.result) (sym c.in-Fail.is)
+    subst (λ (p : Plan). CameTo g.P.Port.acts (done_plan (g.P.Port.shows port) r p) port port c.fail.new.registers c.fail.result) (sym c.in-Fail.is)
     (record { step = c.fail.ensures.step; registers = c.fail.ensures.registers; acted = g.met.P.Port.stays port; unchanged = λ _. refl })
 
 pub returns-in-End : goal.returns-in-End
 returns-in-End g c =
     let port = c.args.port.now in
     let r = c.args.registers.now in
-    subst (λ (p : Plan). Obeyed g.P.Port.acts (done_plan (g.P.Port.shows port) r p) port port c.end.new.registers c.end.result) (sym c.in-End.is)
+    subst (λ (p : Plan). CameTo g.P.Port.acts (done_plan (g.P.Port.shows port) r p) port port c.end.new.registers c.end.result) (sym c.in-End.is)
     (record { step = c.end.ensures.step; registers = c.end.ensures.registers; acted = g.met.P.Port.stays port; unchanged = λ _. refl })
 
 pub returns-in-Fetch : goal.returns-in-Fetch
 returns-in-Fetch g c =
     let port = c.args.port.now in
     let r = c.args.registers.now in
-    subst (λ (p : Plan). Obeyed g.P.Port.acts (done_plan (g.P.Port.shows port) r p) port port c.fetch_word.new.registers c.fetch_word.result)
+    subst (λ (p : Plan). CameTo g.P.Port.acts (done_plan (g.P.Port.shows port) r p) port port c.fetch_word.new.registers c.fetch_word.result)
     (sym c.in-Fetch.is)
     (record { step = c.fetch_word.ensures.step; registers = c.fetch_word.ensures.registers; acted = g.met.P.Port.stays port; unchanged = λ _. refl })
 
@@ -282,7 +282,7 @@ pub returns-in-Count : goal.returns-in-Count
 returns-in-Count g c =
     let port = c.args.port.now in
     let r = c.args.registers.now in
-    subst (λ (p : Plan). Obeyed g.P.Port.acts (done_plan (g.P.Port.shows port) r p) port port c.count_orders.new.registers c.count_orders.result)
+    subst (λ (p : Plan). CameTo g.P.Port.acts (done_plan (g.P.Port.shows port) r p) port port c.count_orders.new.registers c.count_orders.result)
     (sym c.in-Count.is)
     (record { step = c.count_orders.ensures.step; registers = c.count_orders.ensures.registers; acted = g.met.P.Port.stays port; unchanged = λ _. refl })
 
@@ -290,12 +290,12 @@ pub returns-in-Examine : goal.returns-in-Examine
 returns-in-Examine g c =
     let port = c.args.port.now in
     let r = c.args.registers.now in
-    subst (λ (p : Plan). Obeyed g.P.Port.acts (done_plan (g.P.Port.shows port) r p) port port c.examine.new.registers c.examine.result) (sym c.in-Examine.is)
+    subst (λ (p : Plan). CameTo g.P.Port.acts (done_plan (g.P.Port.shows port) r p) port port c.examine.new.registers c.examine.result) (sym c.in-Examine.is)
     (record { step = c.examine.ensures.step; registers = c.examine.ensures.registers; acted = g.met.P.Port.stays port; unchanged = λ _. refl })
 
 pub returns-in-Await : goal.returns-in-Await
 returns-in-Await g c =
     let port = c.args.port.now in
     let r = c.args.registers.now in
-    subst (λ (p : Plan). Obeyed g.P.Port.acts (done_plan (g.P.Port.shows port) r p) port port c.pass.new.registers c.pass.result) (sym c.in-Await.is)
+    subst (λ (p : Plan). CameTo g.P.Port.acts (done_plan (g.P.Port.shows port) r p) port port c.pass.new.registers c.pass.result) (sym c.in-Await.is)
     (record { step = c.pass.ensures.step; registers = c.pass.ensures.registers; acted = g.met.P.Port.stays port; unchanged = λ _. refl })

@@ -1,7 +1,7 @@
 use Rattle.std.proofs.Common.{subst, sym, refl, ◌∙◌}
 use Rattle.kdf_processor.specs.declared.plan.Plan.TheVariants.{Fail}
 use Rattle.kdf_processor.specs.declared.step.Step.TheVariants.{Held}
-use Rattle.kdf_processor.specs.Outcome.{Obeyed, held_or}
+use Rattle.kdf_processor.specs.Outcome.{CameTo, held_or}
 use Rattle.kdf_processor.specs.Plan.{done_plan}
 use Rattle.kdf_processor.proofs.obeying.fail_or_wait.Goals as goal
 
@@ -11,7 +11,7 @@ returns-in-None g c =
     let v = g.P.Port.shows port in
     let r = c.args.registers.now in
     subst
-    (λ n. Obeyed g.P.Port.acts (held_or r n (done_plan v r (Fail c.args.kind))) port port c.fail.new.registers c.fail.result)
+    (λ n. CameTo g.P.Port.acts (held_or r n (done_plan v r (Fail c.args.kind))) port port c.fail.new.registers c.fail.result)
     (sym c.in-None.is ∙ c.first_need.ensures r)
     (record { step = c.fail.ensures.step; registers = c.fail.ensures.registers; acted = g.met.P.Port.stays port; unchanged = λ _. refl })
 
@@ -21,6 +21,6 @@ returns-in-Some g c =
     let v = g.P.Port.shows port in
     let r = c.args.registers.now in
     subst
-    (λ n. Obeyed g.P.Port.acts (held_or r n (done_plan v r (Fail c.args.kind))) port port r (Held c.in-Some.need))
+    (λ n. CameTo g.P.Port.acts (held_or r n (done_plan v r (Fail c.args.kind))) port port r (Held c.in-Some.need))
     (sym c.in-Some.is ∙ c.first_need.ensures r)
     (record { step = refl; registers = refl; acted = g.met.P.Port.stays port; unchanged = λ _. refl })

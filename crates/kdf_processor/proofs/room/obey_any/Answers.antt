@@ -1,5 +1,5 @@
 use Rattle.std.proofs.Common.{ap, subst, sym, ◌∙◌}
-use Rattle.kdf_processor.specs.Outcome.{Outcome, Obeyed}
+use Rattle.kdf_processor.specs.Outcome.{Outcome, CameTo}
 use Rattle.kdf_processor.specs.Plan.{CanObey, planned_outcome}
 use Rattle.kdf_processor.proofs.room.obey_any.Goals as goal
 
@@ -24,7 +24,7 @@ returns-clause-obeyed g c =
       stays = kept.keeps;
       obeyed =
           subst
-          (λ (o : Outcome). Obeyed g.P.Port.acts o c.reserve_for.new.port done.new.port done.new.registers done.result)
+          (λ (o : Outcome). CameTo g.P.Port.acts o c.reserve_for.new.port done.new.port done.new.registers done.result)
           (ap (λ v. planned_outcome v r c.plan_next-planned.result) kept.shows ∙ sym c.plan_next-planned.ensures.outcome)
           done.ensures;
     }

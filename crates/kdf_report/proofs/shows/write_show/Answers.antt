@@ -1,11 +1,11 @@
 use Rattle.std.proofs.Common.{◌≡◌, ◌+◌, ◌-◌, ◌<◌, arith}
-use Rattle.kdf_report.specs.Text.{word_line}
+use Rattle.kdf_report.specs.Text.{word_line_at}
 use Rattle.kdf_text.proofs.Texts.{text_range_more}
 use Rattle.kdf_report.proofs.shows.write_show.Goals as goal
 
 pub loop-address-preserved : goal.loop-address-preserved
 loop-address-preserved g c = record {
-  written = text_range_more (word_line (g.P.Program.state c.args.program.now)) c.args.first c.loop-address.address _ _ _ (omega arith)
+  written = text_range_more (word_line_at (g.P.Program.state c.args.program.now)) c.args.first c.loop-address.address _ _ _ (omega arith)
       c.loop-address.invariant.written c.in_ok-show_word.ensures;
   some = λ _. omega arith;
   none = λ h. absurd (omega arith);
@@ -21,6 +21,6 @@ returns g c =
 pub returns-in_ok-show_word : goal.returns-in_ok-show_word
 returns-in_ok-show_word g c =
     let last : c.loop-address.address ≡ c.args.last = omega arith in
-    let all = text_range_more (word_line (g.P.Program.state c.args.program.now)) c.args.first c.loop-address.address _ _ _ (omega arith)
+    let all = text_range_more (word_line_at (g.P.Program.state c.args.program.now)) c.args.first c.loop-address.address _ _ _ (omega arith)
     c.loop-address.invariant.written c.in_ok-show_word.ensures in
     rw last at all

@@ -1,5 +1,5 @@
 use Rattle.std.proofs.Common.{◌∙◌, ap, vec_items, map}
-use Rattle.kdf_theory.specs.Shown.{state_at}
+use Rattle.kdf_theory.specs.MachineView.{state_at}
 use Rattle.kdf_job.specs.Shows.{shown_job, shown_slot}
 use Rattle.kdf_job.specs.WellFormed.{IsSlot}
 use Rattle.kdf_report.specs.MadeFrom.{HasProgram}

@@ -1,5 +1,5 @@
 use Rattle.std.proofs.Common.{map, take}
-use Rattle.kdf_theory.specs.Shown.{state_at}
+use Rattle.kdf_theory.specs.MachineView.{state_at}
 use Rattle.kdf_job.specs.Shows.{shown_slot}
 use Rattle.kdf_text.specs.Text.{Adds}
 use Rattle.kdf_report.specs.Summary.{program_line}

@@ -1,6 +1,6 @@
 use Rattle.std.proofs.Common.{List, map, rules, take, ℕ}
 use Rattle.kdf_place.specs.declared.image.Image.{Image}
-use Rattle.kdf_job.specs.Job.{SlotJob}
+use Rattle.kdf_job.specs.Job.{ShownSlot}
 use Rattle.kdf_job.specs.Shows.{shown_slot}
 use Rattle.kdf_theory.specs.Loading.{slots_of}
 use Rattle.kdf_snapshot.proofs.Fronts.{rising-front}
@@ -11,7 +11,7 @@ pub returns-clause-journal : goal.returns-clause-journal
 returns-clause-journal c =
     let job = c.args.job.now in
     let schedule = c.requires.job.schedule in
-    let slots : List SlotJob = map shown_slot job.slots.items in
+    let slots : List ShownSlot = map shown_slot job.slots.items in
     let images : List (List ℕ) = map (λ (x : Image). x.words.items) c.args.images.now in
     unserved-ok _ (slots_of slots images) (unserved-loaded slots images c.requires.unserved) (take c.args.first job.events.items)
     (rising-front 0 c.args.first job.events.items schedule.rising schedule.each) c.rebuild_with.result c.rebuild_with.ensures.slots
@@ -21,7 +21,7 @@ pub returns-clause-refused : goal.returns-clause-refused
 returns-clause-refused c =
     let job = c.args.job.now in
     let schedule = c.requires.job.schedule in
-    let slots : List SlotJob = map shown_slot job.slots.items in
+    let slots : List ShownSlot = map shown_slot job.slots.items in
     let images : List (List ℕ) = map (λ (x : Image). x.words.items) c.args.images.now in
     unserved-err _ (slots_of slots images) (unserved-loaded slots images c.requires.unserved) (take c.args.first job.events.items)
     (rising-front 0 c.args.first job.events.items schedule.rising schedule.each) c.args.entries.now c.rebuild_with.result c.rebuild_with.ensures.refused

@@ -2,7 +2,7 @@ use Rattle.std.proofs.Common.{length-take, take, drop, ap, sym, ◌∙◌, subst
 use Rattle.std.proofs.lemmas.Result.{IfErr-weaker, IfOk-weaker}
 use Rattle.std.specs.Prelude.{sum_by}
 use Rattle.kdf_theory.specs.Follows.{entries_in}
-use Rattle.kdf_theory.specs.Shown.{Shown, ShowsSeen}
+use Rattle.kdf_theory.specs.MachineView.{MachineView, ShowsSeen}
 use Rattle.kdf_snapshot.proofs.Fronts.{entries-bound, entries-parts, few-orders, kept, kept-journal, refused-as, rising-front}
 use Rattle.kdf_snapshot.proofs.JournalLengths.{few_entries}
 use Rattle.kdf_snapshot.proofs.rebuilt.rebuild_with.Goals as goal
@@ -20,7 +20,7 @@ follow-requires-clause-room g c =
       arith,
       entries-bound (take i es),
       length-take i es,
-      ap (λ (m : Shown). m.room) c.reserve_entries.ensures,
+      ap (λ (m : MachineView). m.room) c.reserve_entries.ensures,
       c.in-Ok.ensures.room,
     ))
 
@@ -40,14 +40,14 @@ returns-in-Ok-follow-clause-room g c =
       left,
       entries-parts i es,
       entries-bound es,
-      ap (λ (m : Shown). m.room) c.reserve_entries.ensures,
+      ap (λ (m : MachineView). m.room) c.reserve_entries.ensures,
       c.in-Ok.ensures.room,
     ))
 
 pub returns-in-Ok-follow-clause-slots : goal.returns-in-Ok-follow-clause-slots
 returns-in-Ok-follow-clause-slots g c =
-    let slots = c.follow.ensures.slots ∙ ap (λ (m : Shown). m.slots) c.reserve_entries.ensures ∙ c.in-Ok.ensures.slots in
-    IfOk-weaker c.compared.result _ _ (λ m is. ap (λ (x : Shown). x.slots) is ∙ slots) c.compared.ensures.machine
+    let slots = c.follow.ensures.slots ∙ ap (λ (m : MachineView). m.slots) c.reserve_entries.ensures ∙ c.in-Ok.ensures.slots in
+    IfOk-weaker c.compared.result _ _ (λ m is. ap (λ (x : MachineView). x.slots) is ∙ slots) c.compared.ensures.machine
 
 pub returns-in-Ok-follow-clause-journal : goal.returns-in-Ok-follow-clause-journal
 returns-in-Ok-follow-clause-journal g c =
@@ -63,7 +63,7 @@ returns-in-Ok-follow-clause-seen g c = IfOk-weaker c.compared.result _ _ (λ m i
 
 pub returns-in-Ok-follow-clause-refused : goal.returns-in-Ok-follow-clause-refused
 returns-in-Ok-follow-clause-refused g c =
-    let slots = c.follow.ensures.slots ∙ ap (λ (m : Shown). m.slots) c.reserve_entries.ensures ∙ c.in-Ok.ensures.slots in
+    let slots = c.follow.ensures.slots ∙ ap (λ (m : MachineView). m.slots) c.reserve_entries.ensures ∙ c.in-Ok.ensures.slots in
     IfErr-weaker c.compared.result _ _ (λ e d. refused-as _ _ _ _ _ _ e slots (rw c.deref.ensures.value at c.in-Ok-follow.ensures.journal) d)
     c.compared.ensures.refused
 

@@ -1,5 +1,5 @@
 use Rattle.kdf_processor.specs.State.{word_at}
-use Rattle.kdf_theory.specs.Shown.{state_at}
+use Rattle.kdf_theory.specs.MachineView.{state_at}
 use Rattle.kdf_snapshot.specs.Stores.{word_lines}
 use Rattle.kdf_snapshot.proofs.Words.{one_more}
 use Rattle.kdf_snapshot.proofs.stores.write_store.Goals as goal

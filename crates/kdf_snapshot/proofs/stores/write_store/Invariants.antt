@@ -1,7 +1,7 @@
 use Rattle.std.specs.List.{flat_map, range_with_len}
 use Rattle.kdf_text.specs.Text.{Adds}
 use Rattle.kdf_processor.specs.State.{word_at}
-use Rattle.kdf_theory.specs.Shown.{state_at}
+use Rattle.kdf_theory.specs.MachineView.{state_at}
 use Rattle.kdf_snapshot.specs.Stores.{word_lines}
 use Rattle.kdf_snapshot.proofs.stores.write_store.Given as goal
 

@@ -1,6 +1,6 @@
 use Rattle.std.proofs.Common.{◌∙◌}
 use Rattle.kdf_job.specs.Shows.{shown_job}
-use Rattle.kdf_theory.specs.Shown.{state_at}
+use Rattle.kdf_theory.specs.MachineView.{state_at}
 use Rattle.kdf_top.proofs.Sealing.{sealed_whole}
 use Rattle.kdf_top.proofs.saving.sealed_text.Goals as goal
 

@@ -1,7 +1,7 @@
 use Rattle.std.proofs.Common.{◌∙◌, ap}
 use Rattle.kdf_text.specs.Text.{text}
 use Rattle.kdf_job.specs.Shows.{shown_job}
-use Rattle.kdf_theory.specs.Shown.{state_at}
+use Rattle.kdf_theory.specs.MachineView.{state_at}
 use Rattle.kdf_report.specs.Text.{journal_lines}
 use Rattle.kdf_top.proofs.Sealing.{snapshot_whole}
 use Rattle.kdf_top.proofs.saving.snapshot.Goals as goal

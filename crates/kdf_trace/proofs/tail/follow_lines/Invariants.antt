@@ -2,7 +2,7 @@ use Rattle.std.proofs.Common.{◌≡◌, ◌≤◌, take, drop}
 use Rattle.std.specs.Prelude.{sum_by}
 use Rattle.kdf_theory.specs.Follows.{entries_in}
 use Rattle.kdf_theory.specs.Served.{IsJournalFor}
-use Rattle.kdf_theory.specs.Shown.{ShowsSeen}
+use Rattle.kdf_theory.specs.MachineView.{ShowsSeen}
 use Rattle.kdf_trace.proofs.tail.follow_lines.Given as goal
 
 abbrev pub invariant-loop-i : goal.invariant-loop-i

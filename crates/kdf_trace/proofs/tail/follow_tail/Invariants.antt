@@ -5,7 +5,7 @@ use Rattle.kdf_schedule.specs.Calls.{AnOrder, calls_made, order_count}
 use Rattle.kdf_schedule.specs.Events.{IsInRange}
 use Rattle.kdf_theory.specs.Follows.{IsRising}
 use Rattle.kdf_theory.specs.Served.{IsJournalFor}
-use Rattle.kdf_theory.specs.Shown.{ShowsSeen}
+use Rattle.kdf_theory.specs.MachineView.{ShowsSeen}
 use Rattle.kdf_trace.proofs.tail.follow_tail.Given as goal
 
 abbrev pub invariant-loop-call : goal.invariant-loop-call

@@ -1,7 +1,7 @@
 use Rattle.std.proofs.Common.{◌≡◌, false, sym, subst, ◌∙◌, arith}
 use Rattle.kdf_director.specs.Advance.{Advance}
 use Rattle.kdf_theory.specs.Next.{any_live}
-use Rattle.kdf_theory.specs.Shown.{Shown}
+use Rattle.kdf_theory.specs.MachineView.{MachineView}
 use Rattle.kdf_watch.proofs.Gone.{gone_blind, gone_same, on_err}
 use Rattle.kdf_watch.proofs.Looking.{called_seen, called_unseen, slot_there}
 use Rattle.kdf_watch.proofs.Passing.{pass_all, passed_of}
@@ -45,7 +45,7 @@ returns-in-AllEnded-clause-called g c =
     c.requires.stop.may x.passed) c.journal-journal.ensures.legal (omega (arith, c.requires.few, x.count, x.some.count)) c.requires.time in
     let over = subst (Advance x.some.last.heard x.some.between c.orders_to-ended.new.self) c.in-AllEnded.is x.some.last.advance in (
       gone_same (λ look b. goal.G-post g c.args.watch.now look b) c.args.machine.now x.some.between c.orders_to-ended.new.self p.gone over.1,
-      subst (λ (m : Shown). any_live m.slots m.journal ≡ false) (sym over.1) over.0,
+      subst (λ (m : MachineView). any_live m.slots m.journal ≡ false) (sym over.1) over.0,
     )
 
 pub returns-in_err-p-clause-err : goal.returns-in_err-p-clause-err

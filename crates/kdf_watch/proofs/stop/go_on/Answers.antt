@@ -1,7 +1,7 @@
 use Rattle.std.proofs.Common.{◌<◌, arith, length, refl, sym, ap, subst, ◌∙◌}
 use Rattle.kdf_schedule.specs.declared.event.Event.TheVariants.{Orders}
 use Rattle.kdf_theory.specs.Served.{IsTrueFor}
-use Rattle.kdf_theory.specs.Shown.{Shown}
+use Rattle.kdf_theory.specs.MachineView.{MachineView}
 use Rattle.kdf_watch.specs.declared.cursor.Cursor.{Cursor}
 use Rattle.kdf_watch.specs.Cursors.{event_at}
 use Rattle.kdf_watch.specs.Onward.{IsAt}
@@ -19,7 +19,7 @@ pub returns-then-not-pass-clause-at : goal.returns-then-not-pass-clause-at
 returns-then-not-pass-clause-at g c =
     let passed = c.if-not-pass.ensures.passed in
     subst (λ (d : Cursor). IsAt c.args.events.now d c.pass.new.machine) (sym passed.2)
-    (subst (λ (m : Shown). IsAt c.args.events.now c.obey_orders.new.cursor m) (sym passed.1) c.obey_orders.ensures.at)
+    (subst (λ (m : MachineView). IsAt c.args.events.now c.obey_orders.new.cursor m) (sym passed.1) c.obey_orders.ensures.at)
 
 pub loop-cursor-smaller : goal.loop-cursor-smaller
 loop-cursor-smaller g c =
@@ -72,7 +72,7 @@ pub returns-in-Some-clause-err : goal.returns-in-Some-clause-err
 returns-in-Some-clause-err g c = tt
 
 pub returns-then-not-pass-clause-slots : goal.returns-then-not-pass-clause-slots
-returns-then-not-pass-clause-slots g c = ap (λ (m : Shown). m.slots) c.if-not-pass.ensures.passed.1 ∙ c.obey_orders.ensures.slots
+returns-then-not-pass-clause-slots g c = ap (λ (m : MachineView). m.slots) c.if-not-pass.ensures.passed.1 ∙ c.obey_orders.ensures.slots
     ∙ c.loop-cursor.invariant.same_slots
 
 pub returns-then-not-pass-clause-err : goal.returns-then-not-pass-clause-err
@@ -103,7 +103,7 @@ returns-in-Some-clause-stopped g c =
 
 pub returns-then-not-pass-clause-truthful : goal.returns-then-not-pass-clause-truthful
 returns-then-not-pass-clause-truthful g c t =
-    subst (λ (m : Shown). IsTrueFor (λ n a. goal.F-post g c.args.service.now n a) m.slots m.journal) (sym c.if-not-pass.ensures.passed.1)
+    subst (λ (m : MachineView). IsTrueFor (λ n a. goal.F-post g c.args.service.now n a) m.slots m.journal) (sym c.if-not-pass.ensures.passed.1)
     (c.obey_orders.ensures.truthful (c.loop-cursor.invariant.truthful t))
 
 pub returns-then-not-pass-clause-stopped : goal.returns-then-not-pass-clause-stopped

@@ -1,8 +1,8 @@
 use Rattle.std.proofs.Common.{Option, None, Some, sym, subst}
 use Rattle.std.specs.Prelude.{IfNone, IfSome}
 use Rattle.kdf_processor.specs.declared.step.Step.TheVariants.{Done}
-use Rattle.kdf_yard.specs.declared.turn.Turn.{Turn}
-use Rattle.kdf_yard.specs.Fields.Turn.{SameProgram}
+use Rattle.kdf_yard.specs.declared.machine_port.MachinePort.{MachinePort}
+use Rattle.kdf_yard.specs.Fields.MachinePort.{SameProgram}
 use Rattle.kdf_yard.proofs.Turns.TurnsShow.{program_acts, program_itself, program_stays, program_then, tried_by}
 use Rattle.kdf_yard.proofs.dispatch.obey_at_hand.Goals as goal
 
@@ -26,5 +26,5 @@ returns-clause-same c =
     either c.obey_at_once.result
     (λ _ done. program_then c.args.turn.now done.kept c.obey_at_once.new.port (program_stays c.args.turn.now done.kept done.stays)
     (program_acts done.kept c.obey_at_once.new.port _ done.obeyed.acted))
-    (λ left. subst (λ (t : Turn). SameProgram c.args.turn.now t) (sym left.1) (program_itself c.args.turn.now))
+    (λ left. subst (λ (t : MachinePort). SameProgram c.args.turn.now t) (sym left.1) (program_itself c.args.turn.now))
     c.obey_at_once.ensures.obeyed c.obey_at_once.ensures.left

@@ -2,11 +2,11 @@ use Rattle.std.proofs.Common.{◌≡◌, ℕ, suc, ◌+◌, false, Option, refl,
 use Rattle.kdf_processor.specs.declared.registers.Registers.{Registers}
 use Rattle.kdf_processor.specs.declared.step.Step.{Step}
 use Rattle.kdf_processor.specs.declared.step.Step.TheVariants.{Done}
-use Rattle.kdf_yard.specs.declared.note.Note.{Note}
-use Rattle.kdf_yard.specs.declared.note.Note.TheVariants.{Quiet}
-use Rattle.kdf_yard.specs.declared.turn.Turn.{Turn}
+use Rattle.kdf_yard.specs.declared.remark.Remark.{Remark}
+use Rattle.kdf_yard.specs.declared.remark.Remark.TheVariants.{Quiet}
+use Rattle.kdf_yard.specs.declared.machine_port.MachinePort.{MachinePort}
 use Rattle.kdf_yard.specs.Fields.Batches.{of_seat, AreQuiet, Passes, is_at}
-use Rattle.kdf_yard.specs.Fields.Turn.{held_in, reach_in, seat_in, shared, SameProgram}
+use Rattle.kdf_yard.specs.Fields.MachinePort.{held_in, reach_in, seat_in, shared, SameProgram}
 use Rattle.kdf_yard.specs.Fields.Turned.{HasTried}
 use Rattle.kdf_yard.proofs.Turns.Batching.{last_by, tried_over, went_on}
 use Rattle.kdf_theory.proofs.GoingOn.{GoesOn}
@@ -14,30 +14,31 @@ use Rattle.kdf_yard.proofs.Turns.TurnsShow.{program_then}
 use Rattle.kdf_yard.proofs.dispatch.obey_quiet.Goals as goal
 
 -- an order was tried of a program that stood so in one turn, and the next turn was left, over what a turn reaches
-abbrev TriesOver : Turn → Turn → Turn → Registers → Registers → Step → Type 0
+abbrev TriesOver : MachinePort → MachinePort → MachinePort → Registers → Registers → Step → Type 0
 TriesOver t u w r left ended =
     HasTried (reach_in t) (held_in t) t.moment (seat_in u r) (shared u) (seat_in w left) (shared w) ended w.note
 
 -- so many were obeyed since a turn, of which nothing is noted, past a place
-abbrev QuietSince : Option ℕ → Turn → Registers → ℕ → Turn → Registers → Type 0
+abbrev QuietSince : Option ℕ → MachinePort → Registers → ℕ → MachinePort → Registers → Type 0
 QuietSince place t r n u left =
     AreQuiet (Passes of_seat place (HasTried (reach_in t) (held_in t) t.moment)) n (seat_in t r) (shared t) (seat_in u left) (shared u)
 
 -- over the turn that there was at first
-over : (t u w : Turn) (r left : Registers) (ended : Step) → SameProgram t u → TriesOver u u w r left ended → TriesOver t u w r left ended
+over : (t u w : MachinePort) (r left : Registers) (ended : Step) → SameProgram t u → TriesOver u u w r left ended → TriesOver t u w r left ended
 over t u w r left ended same tried =
     tried_over t u same (seat_in u r) (shared u) (seat_in w left) (shared w) ended w.note tried
 
 -- of a turn in which nothing was changed before
-unchanged : (u u' w : Turn) (r r' left : Registers) (ended : Step) → r' ≡ r → u' ≡ u → TriesOver u' u' w r' left ended → TriesOver u u w r left ended
+unchanged : (u u' w : MachinePort) (r r' left : Registers) (ended : Step) → r' ≡ r → u' ≡ u → TriesOver u' u' w r' left ended → TriesOver u u w r left ended
 unchanged u u' w r r' left ended is is' tried = rw (sym is, sym is') tried
 
-went : (t u w : Turn) (r left : Registers) → TriesOver t u w r left Done → GoesOn r left
+went : (t u w : MachinePort) (r left : Registers) → TriesOver t u w r left Done → GoesOn r left
 went t u w r left tried =
     went_on (reach_in t) (held_in t) t.moment (seat_in u r) (shared u) (seat_in w left) (shared w) w.note tried
 
 -- one more of which nothing is noted
-quiet_on : (place : Option ℕ) (t u w : Turn) (first r left : Registers) (n : ℕ) → QuietSince place t first n u r → w.note ≡ Quiet → TriesOver t u w r left Done
+quiet_on : (place : Option ℕ) (t u w : MachinePort) (first r left : Registers) (n : ℕ) → QuietSince place t first n u r → w.note ≡ Quiet
+    → TriesOver t u w r left Done
     → is_at place left ≡ false → QuietSince place t first (n + 1) w left
 quiet_on place t u w first r left n earlier quiet tried past =
     let one : suc n ≡ n + 1 = omega arith in
@@ -46,7 +47,7 @@ quiet_on place t u w first r left n earlier quiet tried past =
       shared u,
       earlier,
       (
-        subst (λ (x : Note). HasTried (reach_in t) (held_in t) t.moment (seat_in u r) (shared u) (seat_in w left) (shared w) Done x) quiet tried,
+        subst (λ (x : Remark). HasTried (reach_in t) (held_in t) t.moment (seat_in u r) (shared u) (seat_in w left) (shared w) Done x) quiet tried,
         past,
       ),
     )

@@ -1,9 +1,9 @@
 use Rattle.std.proofs.Common.{◌≡◌, ◌+◌, ◌-◌, ◌<◌, ◌≤◌}
 use Rattle.kdf_processor.specs.declared.registers.Life.TheVariants as life
 use Rattle.kdf_processor.specs.Buffered.{Agrees}
-use Rattle.kdf_yard.specs.declared.note.Note.TheVariants.{Quiet}
+use Rattle.kdf_yard.specs.declared.remark.Remark.TheVariants.{Quiet}
 use Rattle.kdf_yard.specs.Fields.Batches.{of_seat, AreQuiet, Passes}
-use Rattle.kdf_yard.specs.Fields.Turn.{held_in, reach_in, seat_in, shared, shown, SameProgram}
+use Rattle.kdf_yard.specs.Fields.MachinePort.{held_in, reach_in, seat_in, shared, shown, SameProgram}
 use Rattle.kdf_yard.specs.Fields.Turned.{HasTried}
 use Rattle.kdf_yard.proofs.dispatch.obey_quiet.Given as goal
 

@@ -1,6 +1,6 @@
 use Rattle.std.proofs.Common.{ap}
 use Rattle.kdf_processor.specs.State.{State}
-use Rattle.kdf_alone.specs.Bench.{given, stock_of}
+use Rattle.kdf_alone.specs.LonePort.{given, stock_of}
 use Rattle.kdf_processor.proofs.Beside.{agrees_with}
 use Rattle.kdf_alone.proofs.alone.Alone.order_buffered.Goals as goal
 

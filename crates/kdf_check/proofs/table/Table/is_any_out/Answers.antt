@@ -1,7 +1,7 @@
 use Rattle.std.proofs.Common.{is_some, ap, ◌∙◌}
 use Rattle.kdf_processor.specs.View.{groups_of}
 use Rattle.kdf_check.specs.Around.{is_out_in}
-use Rattle.kdf_check.proofs.Desks.{some-find}
+use Rattle.kdf_check.proofs.CheckPorts.{some-find}
 use Rattle.kdf_check.proofs.table.Table.is_any_out.Goals as goal
 
 pub returns : goal.returns

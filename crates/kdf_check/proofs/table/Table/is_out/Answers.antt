@@ -1,5 +1,5 @@
 use Rattle.std.proofs.Common.{sym, ◌∙◌}
-use Rattle.kdf_check.proofs.Desks.{none_out}
+use Rattle.kdf_check.proofs.CheckPorts.{none_out}
 use Rattle.kdf_check.proofs.table.Table.is_out.Goals as goal
 
 pub returns-else-self : goal.returns-else-self

@@ -2,7 +2,7 @@ use Rattle.std.proofs.Common.{◌≡◌, ℕ, ◌+◌, List, ◌++◌, Option, s
 use Rattle.std.proofs.Math.Path.{fun_ext}
 use Rattle.kdf_journal.specs.declared.entry.Entry.{Entry}
 use Rattle.kdf_journal.specs.Counts.{Hold}
-use Rattle.kdf_journal.specs.Steps.{Step, added}
+use Rattle.kdf_journal.specs.Steps.{JournalStep, added}
 use Rattle.kdf_journal.proofs.Added.{answers-added, answers_by, clock-added, clock_by, hold_by, last_hold-added, moved_by, moved_if-added, pending-added}
 use Rattle.kdf_journal.proofs.Added.{pending_by, priorities-added, priorities_by, ran-added, ran_by}
 use Rattle.kdf_transfer.specs.Slots.{Slot}

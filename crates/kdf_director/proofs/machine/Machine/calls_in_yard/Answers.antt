@@ -5,7 +5,7 @@ use Rattle.kdf_yard.specs.Fields.Standing.{Standing, standing, IsYard}
 use Rattle.kdf_director.specs.Fields.Viewed.{shown_of}
 use Rattle.kdf_director.specs.Lends.{windows_in}
 use Rattle.kdf_director.specs.Halts.{HasMadeButTo, HasMadeTo}
-use Rattle.kdf_theory.specs.Shown.{Shown}
+use Rattle.kdf_theory.specs.MachineView.{MachineView}
 use Rattle.kdf_director.proofs.Calls.CallsAtOnce.{at_four}
 use Rattle.kdf_director.proofs.Calls.CallsInTurn.{lived}
 use Rattle.kdf_director.proofs.Linking.MachineLends.{windows_same}
@@ -25,7 +25,7 @@ orders-made-requires-clause-ready g c =
     c.self.invariant.ready
 
 pub orders-made-requires-clause-few : goal.orders-made-requires-clause-few
-orders-made-requires-clause-few g c = subst (λ (m : Shown). calls m.journal + c.args.left.now ≤ 20000000) (sym c.self.view_is) c.requires.few
+orders-made-requires-clause-few g c = subst (λ (m : MachineView). calls m.journal + c.args.left.now ≤ 20000000) (sym c.self.view_is) c.requires.few
 
 -- so it stood before the calls
 lifted : (g : Over) (c : goal.After-destroy_empty g)
@@ -43,13 +43,13 @@ same_slots g c =
     on_either c.orders-made.result _ _ _ c.orders-made.ensures.made c.orders-made.ensures.err
     (λ r x. (lived (λ n a. goal.F-post g c.args.service.now n a) _ x.made _ r x.some).2.slots)
     (λ fewer. fewer.on.slots)
-    ∙ ap (λ (m : Shown). m.slots) (lifted g c)
+    ∙ ap (λ (m : MachineView). m.slots) (lifted g c)
 
 same_windows : (g : Over) (c : goal.After-destroy_empty g) → c.yard.inside.windows ≡ c.self.inside.windows
 same_windows g c =
     c.yard.invariant.placed
     ∙ windows_same c.yard.inside.slots.items
-    ∙ ap windows_in (ap (λ (y : Standing). y.slots) c.yard.view_is ∙ same_slots g c ∙ sym (ap (λ (m : Shown). m.slots) c.self.view_is))
+    ∙ ap windows_in (ap (λ (y : Standing). y.slots) c.yard.view_is ∙ same_slots g c ∙ sym (ap (λ (m : MachineView). m.slots) c.self.view_is))
     ∙ sym (windows_same c.self.inside.slots.items)
     ∙ sym c.self.invariant.yard.placed
 
@@ -80,7 +80,7 @@ returns-clause-made g c =
     (λ r made.
     subst (λ (y : Standing). HasMadeTo (λ n a. goal.F-post g c.args.service.now n a) c.args.halt c.args.left.now c.orders-made.new.left c.args.self.now
     (shown_of y c.orders-made.new.journal c.self.inside.room) r) (laid_down g c)
-    (subst (λ (old : Shown). HasMadeTo (λ n a. goal.F-post g c.args.service.now n a) c.args.halt c.args.left.now c.orders-made.new.left old
+    (subst (λ (old : MachineView). HasMadeTo (λ n a. goal.F-post g c.args.service.now n a) c.args.halt c.args.left.now c.orders-made.new.left old
     (shown_of c.orders-made.new.yard c.orders-made.new.journal c.self.inside.room) r) (lifted g c) made))
     c.orders-made.ensures.made
 
@@ -90,7 +90,7 @@ returns-clause-err g c =
     (λ fewer.
     subst (λ (y : Standing). HasMadeButTo (λ n a. goal.F-post g c.args.service.now n a) c.args.halt c.args.left.now c.orders-made.new.left c.args.self.now
     (shown_of y c.orders-made.new.journal c.self.inside.room)) (laid_down g c)
-    (subst (λ (old : Shown). HasMadeButTo (λ n a. goal.F-post g c.args.service.now n a) c.args.halt c.args.left.now c.orders-made.new.left old
+    (subst (λ (old : MachineView). HasMadeButTo (λ n a. goal.F-post g c.args.service.now n a) c.args.halt c.args.left.now c.orders-made.new.left old
     (shown_of c.orders-made.new.yard c.orders-made.new.journal c.self.inside.room)) (lifted g c) fewer))
     c.orders-made.ensures.err
 
@@ -98,4 +98,4 @@ pub returns-clause-slots : goal.returns-clause-slots
 returns-clause-slots g c = ap (λ (y : Standing). y.slots) (sym (laid_down g c)) ∙ same_slots g c
 
 pub returns-clause-room : goal.returns-clause-room
-returns-clause-room g c = ap (λ (m : Shown). m.room) c.self.view_is
+returns-clause-room g c = ap (λ (m : MachineView). m.room) c.self.view_is

@@ -6,7 +6,7 @@ use Rattle.kdf_places.specs.Transfers.{after_end, back_cells, ended_spot, last_l
 use Rattle.kdf_theory.specs.ByJournal.{is_of}
 use Rattle.kdf_director.specs.Fields.Machines.{stands}
 use Rattle.kdf_yard.specs.Fields.Standing.{standing}
-use Rattle.kdf_theory.specs.Shown.{Shown, entered, state_of}
+use Rattle.kdf_theory.specs.MachineView.{MachineView, entered, state_of}
 use Rattle.kdf_director.proofs.Linking.AfterEvents.{comes_back, has_place, others_ended, ready_ended, shown_ended, stands_ended, yard_ended}
 use Rattle.kdf_director.proofs.machine.Machine.end.Goals as goal
 use Rattle.kdf_director.proofs.machine.Machine.end.Goals.{After-end_at}
@@ -43,7 +43,7 @@ invariant_of-self c =
           (spots at);
       ready =
           ready_ended (stands c.self.inside) c.self.inside.journal c.self.inside.room c.self.invariant.ready
-          (subst (λ (m : Shown). 0 < m.room) (sym c.self.view_is) c.requires.room) _ c.push.new.self c.push.ensures.spare
+          (subst (λ (m : MachineView). 0 < m.room) (sym c.self.view_is) c.requires.room) _ c.push.new.self c.push.ensures.spare
           c.args.d c.requires.device (there at) c.push.ensures.entries;
     }
 
@@ -51,7 +51,7 @@ pub returns-clause-entered : goal.returns-clause-entered
 returns-clause-entered c =
     let at = (goal.at.returns-clause-entered c).After-end_at in
     shown_ended (stands c.self.inside) c.self.inside.journal c.self.inside.room c.self.invariant.ready
-    (subst (λ (m : Shown). 0 < m.room) (sym c.self.view_is) c.requires.room) _ c.push.new.self c.push.ensures.spare
+    (subst (λ (m : MachineView). 0 < m.room) (sym c.self.view_is) c.requires.room) _ c.push.new.self c.push.ensures.spare
     c.args.d c.requires.device (there at) c.push.ensures.entries
     ∙ ap (λ m. entered m (Ends c.args.d)) c.self.view_is
 
@@ -59,7 +59,7 @@ pub returns-clause-others : goal.returns-clause-others
 returns-clause-others c = λ p none.
     let at = (goal.at.returns-clause-others c).After-end_at in
     others_ended (stands c.self.inside) c.self.inside.journal c.self.inside.room c.self.invariant.ready
-    (subst (λ (m : Shown). 0 < m.room) (sym c.self.view_is) c.requires.room) _ c.push.new.self c.push.ensures.spare
+    (subst (λ (m : MachineView). 0 < m.room) (sym c.self.view_is) c.requires.room) _ c.push.new.self c.push.ensures.spare
     c.args.d c.requires.device (there at) c.push.ensures.entries
-    p (ap (λ (m : Shown). is_of p (pending c.args.d m.journal)) c.self.view_is ∙ none)
-    ∙ ap (λ (m : Shown). state_of m p) c.self.view_is
+    p (ap (λ (m : MachineView). is_of p (pending c.args.d m.journal)) c.self.view_is ∙ none)
+    ∙ ap (λ (m : MachineView). state_of m p) c.self.view_is

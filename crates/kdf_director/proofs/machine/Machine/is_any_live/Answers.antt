@@ -2,7 +2,7 @@ use Rattle.std.proofs.Common.{ap, ◌∙◌, subst}
 use Rattle.kdf_yard.specs.Fields.Going.{any_on}
 use Rattle.kdf_theory.specs.Next.{any_live}
 use Rattle.kdf_director.specs.Fields.Machines.{stands}
-use Rattle.kdf_theory.specs.Shown.{Shown, ShowsSeen}
+use Rattle.kdf_theory.specs.MachineView.{MachineView, ShowsSeen}
 use Rattle.kdf_director.proofs.Linking.EventsEntered.{shown_seen}
 use Rattle.kdf_director.proofs.Linking.FieldsShow.{live_shown}
 use Rattle.kdf_director.proofs.machine.Machine.is_any_live.Goals as goal
@@ -13,7 +13,7 @@ returns-clause-live c =
     c.is_any_on.ensures
     ∙ ap any_on c.deref.ensures.value
     ∙ live_shown m c.self.invariant
-    ∙ ap (λ (v : Shown). any_live v.slots v.journal) c.self.view_is
+    ∙ ap (λ (v : MachineView). any_live v.slots v.journal) c.self.view_is
 
 pub returns-clause-seen : goal.returns-clause-seen
 returns-clause-seen c =

@@ -1,6 +1,6 @@
 use Rattle.std.proofs.Common.{subst}
 use Rattle.kdf_director.specs.Fields.Machines.{stands}
-use Rattle.kdf_theory.specs.Shown.{ShowsSeen}
+use Rattle.kdf_theory.specs.MachineView.{ShowsSeen}
 use Rattle.kdf_director.proofs.Linking.EventsEntered.{shown_seen}
 use Rattle.kdf_director.proofs.machine.Machine.journal.Goals as goal
 

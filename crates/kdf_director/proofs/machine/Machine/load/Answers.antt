@@ -6,7 +6,7 @@ use Rattle.kdf_place.specs.declared.image.Image.{Image}
 use Rattle.kdf_processor.specs.State.{begin}
 use Rattle.kdf_director.specs.Fields.Viewed.{states_in}
 use Rattle.kdf_theory.specs.Loading.{slots_of}
-use Rattle.kdf_theory.specs.Shown.{Shown}
+use Rattle.kdf_theory.specs.MachineView.{MachineView}
 use Rattle.kdf_director.proofs.Loading.BeforeOrders.{is_ready, states_start}
 use Rattle.kdf_director.proofs.machine.Machine.load.Goals as goal
 
@@ -23,7 +23,7 @@ machine_of-requires c =
 its_slots : (c : goal.After-machine_of) → c.machine_of.result.slots ≡ slots_of (map shown_slot c.args.job.now.slots.items)
     (map (λ (x : Image). x.words.items) c.args.images.now)
 its_slots c =
-    ap (λ (m : Shown). m.slots) c.machine_of.ensures.shown
+    ap (λ (m : MachineView). m.slots) c.machine_of.ensures.shown
     ∙ c.in_ok-yard.ensures.loaded.slots_are
     ∙ ap (λ jobs. slots_of (map shown_slot jobs) (map (λ (x : Image). x.words.items) c.args.images.now)) c.deref.ensures.value
 
@@ -32,10 +32,10 @@ returns-clause-slots c = its_slots c
 
 pub returns-clause-states : goal.returns-clause-states
 returns-clause-states c =
-    ap (λ (m : Shown). m.states) c.machine_of.ensures.shown
+    ap (λ (m : MachineView). m.states) c.machine_of.ensures.shown
     ∙ ap (states_in c.in_ok-yard.yard.reaches c.in_ok-yard.yard.seats c.in_ok-yard.yard.shared) (c.reserve.ensures.entries ∙ c.new-journal.ensures)
     ∙ states_start _ c.in_ok-yard.yard c.in_ok-yard.ensures.loaded
-    ∙ ap (map begin) (sym (ap (λ (m : Shown). m.slots) c.machine_of.ensures.shown ∙ c.in_ok-yard.ensures.loaded.slots_are))
+    ∙ ap (map begin) (sym (ap (λ (m : MachineView). m.slots) c.machine_of.ensures.shown ∙ c.in_ok-yard.ensures.loaded.slots_are))
 
 pub returns-clause-journal : goal.returns-clause-journal
-returns-clause-journal c = ap (λ (m : Shown). m.journal) c.machine_of.ensures.shown ∙ c.reserve.ensures.entries ∙ c.new-journal.ensures
+returns-clause-journal c = ap (λ (m : MachineView). m.journal) c.machine_of.ensures.shown ∙ c.reserve.ensures.entries ∙ c.new-journal.ensures

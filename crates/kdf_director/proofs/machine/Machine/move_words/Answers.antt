@@ -6,7 +6,7 @@ use Rattle.kdf_places.specs.Transfers.{after_move, moved_spot}
 use Rattle.kdf_theory.specs.ByJournal.{is_of}
 use Rattle.kdf_director.specs.Fields.Machines.{stands}
 use Rattle.kdf_yard.specs.Fields.Standing.{standing}
-use Rattle.kdf_theory.specs.Shown.{Shown, entered, state_of}
+use Rattle.kdf_theory.specs.MachineView.{MachineView, entered, state_of}
 use Rattle.kdf_director.proofs.Linking.AfterEvents.{has_place, others_moved, ready_moved, shown_moved, stands_moved, yard_moved}
 use Rattle.kdf_director.proofs.machine.Machine.move_words.Goals as goal
 use Rattle.kdf_director.proofs.machine.Machine.move_words.Goals.{After-move_at}
@@ -34,7 +34,7 @@ invariant_of-self c =
           (c.move_at.ensures.dry c.self.invariant.yard.dry) c.args.n refl (spots at);
       ready =
           ready_moved (stands c.self.inside) c.self.inside.journal c.self.inside.room c.self.invariant.ready
-          (subst (λ (m : Shown). 0 < m.room) (sym c.self.view_is) c.requires.room) _ c.push.new.self c.push.ensures.spare
+          (subst (λ (m : MachineView). 0 < m.room) (sym c.self.view_is) c.requires.room) _ c.push.new.self c.push.ensures.spare
           c.args.d c.args.n c.requires.device c.requires.few (there at) c.push.ensures.entries;
     }
 
@@ -42,7 +42,7 @@ pub returns-clause-entered : goal.returns-clause-entered
 returns-clause-entered c =
     let at = (goal.at.returns-clause-entered c).After-move_at in
     shown_moved (stands c.self.inside) c.self.inside.journal c.self.inside.room c.self.invariant.ready
-    (subst (λ (m : Shown). 0 < m.room) (sym c.self.view_is) c.requires.room) _ c.push.new.self c.push.ensures.spare
+    (subst (λ (m : MachineView). 0 < m.room) (sym c.self.view_is) c.requires.room) _ c.push.new.self c.push.ensures.spare
     c.args.d c.args.n c.requires.device c.requires.few (there at) c.push.ensures.entries
     ∙ ap (λ m. entered m (Moves c.args.d c.args.n)) c.self.view_is
 
@@ -50,7 +50,7 @@ pub returns-clause-others : goal.returns-clause-others
 returns-clause-others c = λ p none.
     let at = (goal.at.returns-clause-others c).After-move_at in
     others_moved (stands c.self.inside) c.self.inside.journal c.self.inside.room c.self.invariant.ready
-    (subst (λ (m : Shown). 0 < m.room) (sym c.self.view_is) c.requires.room) _ c.push.new.self c.push.ensures.spare
+    (subst (λ (m : MachineView). 0 < m.room) (sym c.self.view_is) c.requires.room) _ c.push.new.self c.push.ensures.spare
     c.args.d c.args.n c.requires.device c.requires.few (there at) c.push.ensures.entries
-    p (ap (λ (m : Shown). is_of p (pending c.args.d m.journal)) c.self.view_is ∙ none)
-    ∙ ap (λ (m : Shown). state_of m p) c.self.view_is
+    p (ap (λ (m : MachineView). is_of p (pending c.args.d m.journal)) c.self.view_is ∙ none)
+    ∙ ap (λ (m : MachineView). state_of m p) c.self.view_is

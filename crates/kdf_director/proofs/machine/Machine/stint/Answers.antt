@@ -3,7 +3,7 @@ use Rattle.std.proofs.Common.{◌<◌, eqb, get_or, length, map, sym, subst}
 use Rattle.kdf_processor.specs.State.{State, lendings}
 use Rattle.kdf_processor.specs.Stints.{IsStint}
 use Rattle.kdf_yard.specs.Fields.Owners.{HasLent, IsTold}
-use Rattle.kdf_theory.specs.Shown.{Shown, state_of}
+use Rattle.kdf_theory.specs.MachineView.{MachineView, state_of}
 use Rattle.kdf_places.specs.Spots.{spot_of}
 use Rattle.kdf_yard.specs.Fields.Stints.{keeping_of, no_keeping}
 use Rattle.kdf_yard.specs.declared.program.Program.{Program}
@@ -15,7 +15,7 @@ stint_in-requires-clause-there c =
     let m = c.self.inside in
     subst (λ xs. IsSomeAnd (find (λ (x : Program). eqb x.p c.args.p) xs) (λ (x : Program). c.args.i < length x.stints.items)) (sym c.deref.ensures.value)
     (stint_there m c.self.invariant c.args.p c.args.i
-    (subst (λ (v : Shown). IsSomeAnd (state_of v c.args.p) (λ (x : State). c.args.i < length (lendings x.stock))) (sym c.self.view_is) c.requires))
+    (subst (λ (v : MachineView). IsSomeAnd (state_of v c.args.p) (λ (x : State). c.args.i < length (lendings x.stock))) (sym c.self.view_is) c.requires))
 
 pub stint_in-requires-clause-lent : goal.stint_in-requires-clause-lent
 stint_in-requires-clause-lent c =
@@ -25,16 +25,16 @@ stint_in-requires-clause-lent c =
     (subst (λ ps. IfSome (find (λ (x : Program). eqb x.p c.args.p) m.programs.items)
     (λ (x : Program). HasLent (map spot_of ps) (map keeping_of x.stints.items))) (sym c.deref-2.ensures.value)
     (stint_lent m c.self.invariant c.args.p c.args.i
-    (subst (λ (v : Shown). IsSomeAnd (state_of v c.args.p) (λ (x : State). c.args.i < length (lendings x.stock))) (sym c.self.view_is) c.requires)))
+    (subst (λ (v : MachineView). IsSomeAnd (state_of v c.args.p) (λ (x : State). c.args.i < length (lendings x.stock))) (sym c.self.view_is) c.requires)))
 
 pub returns : goal.returns
 returns c =
     let m = c.self.inside in
-    subst (λ (v : Shown). IsSomeAnd (state_of v c.args.p)
+    subst (λ (v : MachineView). IsSomeAnd (state_of v c.args.p)
     (λ (x : State). IfSome (slice_get (lendings x.stock) c.args.i) (λ l. IsStint l c.stint_in.result.0 c.stint_in.result.1 c.stint_in.result.2.now)))
     c.self.view_is
     (stint_shown m c.self.invariant c.args.p c.args.i
-    (subst (λ (v : Shown). IsSomeAnd (state_of v c.args.p) (λ (x : State). c.args.i < length (lendings x.stock))) (sym c.self.view_is) c.requires)
+    (subst (λ (v : MachineView). IsSomeAnd (state_of v c.args.p) (λ (x : State). c.args.i < length (lendings x.stock))) (sym c.self.view_is) c.requires)
     c.stint_in.result.0 c.stint_in.result.1 c.stint_in.result.2.now
     (subst (λ xs. IfSome (find (λ (x : Program). eqb x.p c.args.p) xs)
     (λ (x : Program). IsTold (map spot_of m.devices.items) (get_or (map keeping_of x.stints.items) c.args.i no_keeping) c.stint_in.result.0

@@ -1,12 +1,12 @@
 use Rattle.std.specs.List.{IsDistinct}
 use Rattle.std.proofs.Common.{[], List, map, sym, subst, arith}
-use Rattle.kdf_job.specs.Job.{SlotJob}
+use Rattle.kdf_job.specs.Job.{ShownSlot}
 use Rattle.kdf_job.specs.Shows.{shown_slot}
 use Rattle.kdf_job.specs.WellFormed.{AreSlots}
 use Rattle.kdf_director.proofs.machine.fields.fields.Goals as goal
 
 -- a job without a slot
-no_slots : AreSlots (let slots : List SlotJob = [] in slots)
+no_slots : AreSlots (let slots : List ShownSlot = [] in slots)
 unfolding IsDistinct
 no_slots =
     record {

@@ -1,7 +1,7 @@
 use Rattle.std.proofs.Common.{None, sym, ◌∙◌}
 use Rattle.std.specs.Option.{option_copied}
 use Rattle.kdf_job.specs.Shows.{shown_slot}
-use Rattle.kdf_theory.specs.Shown.{state_at, state_of}
+use Rattle.kdf_theory.specs.MachineView.{state_at, state_of}
 use Rattle.kdf_theory.specs.Slots.{start_of}
 use Rattle.kdf_report.proofs.Numbers.{any_number, device_there, no_device}
 use Rattle.kdf_report.proofs.in_slot.InSlotProgram.device.Goals as goal

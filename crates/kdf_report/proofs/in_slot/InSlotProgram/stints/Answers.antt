@@ -1,5 +1,5 @@
 use Rattle.std.proofs.Common.{None}
-use Rattle.kdf_theory.specs.Shown.{state_of}
+use Rattle.kdf_theory.specs.MachineView.{state_of}
 use Rattle.kdf_theory.specs.Slots.{start_of}
 use Rattle.kdf_report.proofs.Numbers.{stints_there}
 use Rattle.kdf_report.proofs.in_slot.InSlotProgram.stints.Goals as goal

@@ -4,7 +4,7 @@ use Rattle.kdf_word.specs.Characters.{codes_of_all}
 use Rattle.kdf_word.proofs.Packing.{length-words_of}
 use Rattle.kdf_transfer.specs.AtOnce.{addressed}
 use Rattle.kdf_transfer.specs.Devices.{fixture_of, progress_of}
-use Rattle.kdf_transfer.specs.InFlight.{Covers, all_words, moves_of, put_words, total_of, words_of}
+use Rattle.kdf_transfer.specs.InFlight.{Covers, all_words, moves_of, put_words, total_of, words_in_flight}
 use Rattle.kdf_transfer.specs.Flying.{motion_of}
 use Rattle.kdf_transfer.proofs.Moving.{words-lease}
 use Rattle.kdf_transfer.proofs.Runs.{ended_input, ring_ended, run_all, run_given}
@@ -39,7 +39,7 @@ lease_is c =
 
 -- the words stay the same
 same : (c : After-put_run) → all_words c.args.self.now.order c.args.self.now.area.first c.args.self.now.area.last c.put_run.new.lease
-    (fixture_of c.args.self.now.device) (progress_of c.args.self.now.device) ≡ words_of (motion_of c.args.self.now)
+    (fixture_of c.args.self.now.device) (progress_of c.args.self.now.device) ≡ words_in_flight (motion_of c.args.self.now)
 same c =
     let f = c.args.self.now in
     words-lease f.order f.area.first f.area.last c.put_run.new.lease f.lease (fixture_of f.device) (progress_of f.device)
@@ -71,7 +71,7 @@ returns-in-Some-clause-flying c =
       ring = c.clear.ensures ∙ ring_ended words f.total (omega (arith, all));
       block =
           c.requires.flying.block
-          ∙ ap (λ b. cond b [] (codes_of_all (take f.moved (words_of (motion_of f))))) c.requires.input
+          ∙ ap (λ b. cond b [] (codes_of_all (take f.moved (words_in_flight (motion_of f))))) c.requires.input
           ∙ sym (ap (λ b. cond b [] (codes_of_all (take f.total words))) c.requires.input);
       room = c.requires.flying.room;
     }

@@ -1,7 +1,7 @@
 use Rattle.std.proofs.Common.{◌≡◌, ◌+◌, ◌-◌, ◌*◌, ◌<◌, ◌≤◌, ◌++◌, true, is_some, length, take, drop, ap, ◌∙◌, sym, subst, arith}
 use Rattle.kdf_transfer.specs.AtOnce.{place_of, has_area, is_input}
 use Rattle.kdf_transfer.specs.Devices.{fixture_of, progress_of}
-use Rattle.kdf_transfer.specs.InFlight.{Motion, Covers, words_of, total_of, all_words}
+use Rattle.kdf_transfer.specs.InFlight.{Motion, Covers, words_in_flight, total_of, all_words}
 use Rattle.kdf_transfer.specs.Flying.{motion_of}
 use Rattle.kdf_transfer.proofs.Moving.{words-lease, moved_one}
 use Rattle.kdf_transfer.proofs.Words.{more_has, few_words, room_more, written_lease, some-written, covers-written, ring_front, ring_more, block_more}
@@ -34,7 +34,7 @@ deliver-requires-clause-inside c =
 pub deliver-requires-clause-room : goal.deliver-requires-clause-room
 deliver-requires-clause-room c = λ not.
     let f = c.args.self.now in
-    let h = room_more (is_input f.order) f.block.items (words_of (motion_of f)) f.moved f.total _ c.requires.flying.block c.requires.flying.total
+    let h = room_more (is_input f.order) f.block.items (words_in_flight (motion_of f)) f.moved f.total _ c.requires.flying.block c.requires.flying.total
     c.requires.more c.requires.flying.room not in
     omega (arith, h, f.block.ok.0)
 
@@ -45,7 +45,7 @@ overflow_add-self-2 c =
 
 -- the words stay the same
 same : (c : After-deliver) → all_words c.args.self.now.order c.args.self.now.area.first c.args.self.now.area.last c.deliver.new.lease
-    (fixture_of c.args.self.now.device) (progress_of c.args.self.now.device) ≡ words_of (motion_of c.args.self.now)
+    (fixture_of c.args.self.now.device) (progress_of c.args.self.now.device) ≡ words_in_flight (motion_of c.args.self.now)
 same c =
     let f = c.args.self.now in
     words-lease f.order f.area.first f.area.last c.deliver.new.lease f.lease (fixture_of f.device) (progress_of f.device)
@@ -71,7 +71,8 @@ pub returns-clause-motion : goal.returns-clause-motion
 returns-clause-motion c =
     let at = (goal.at.returns-clause-motion c).After-pop-word in
     let f = c.args.self.now in
-    let front = ring_front (words_of (motion_of f)) f.moved c.pop-word.result c.pop-word.new.self (more at) (sym c.requires.flying.ring ∙ c.pop-word.ensures) in
+    let front =
+    ring_front (words_in_flight (motion_of f)) f.moved c.pop-word.result c.pop-word.new.self (more at) (sym c.requires.flying.ring ∙ c.pop-word.ensures) in
     ap (λ l. let u : Motion = record (motion_of f) { moved = f.moved + 1; lease = l } in u) c.deliver.ensures.lease
     ∙ moved_one (motion_of f) c.pop-word.result (more at) front.0
 
@@ -80,7 +81,7 @@ returns-clause-flying c =
     let at = (goal.at.returns-clause-flying c).After-pop-word in
     let later = (goal.at.returns-clause-flying c).After-deliver in
     let f = c.args.self.now in
-    let ws = words_of (motion_of f) in
+    let ws = words_in_flight (motion_of f) in
     let front = ring_front ws f.moved c.pop-word.result c.pop-word.new.self (more at) (sym c.requires.flying.ring ∙ c.pop-word.ensures) in
     record {
       kind = c.requires.flying.kind;

@@ -2,7 +2,7 @@ use Rattle.std.proofs.Common.{◌≡◌, ◌≤◌, ◌∙◌, [], length, take,
 use Rattle.std.proofs.lemmas.List.{take_all}
 use Rattle.kdf_word.specs.Characters.{codes_of_all}
 use Rattle.kdf_transfer.specs.Devices.{fixture_of, progress_of}
-use Rattle.kdf_transfer.specs.InFlight.{moved_by, total_of, words_of}
+use Rattle.kdf_transfer.specs.InFlight.{moved_by, total_of, words_in_flight}
 use Rattle.kdf_transfer.specs.Flying.{motion_of}
 use Rattle.kdf_transfer.specs.Runs.{lent_words}
 use Rattle.kdf_transfer.proofs.Moving.{moved_none}
@@ -16,7 +16,7 @@ push_run-requires-clause-inside c =
     let f = c.args.self.now in
     omega (arith, c.requires.flying.total, few_words f.order f.area.first f.area.last f.lease (fixture_of f.device) (progress_of f.device))
 
-words : (c : In-Some) → lent_words c.in-Some.lease c.args.self.now.area.first c.args.self.now.total ≡ words_of (motion_of c.args.self.now)
+words : (c : In-Some) → lent_words c.in-Some.lease c.args.self.now.area.first c.args.self.now.total ≡ words_in_flight (motion_of c.args.self.now)
 words c =
     let f = c.args.self.now in
     out_words f.order f.area.first f.area.last f.lease (fixture_of f.device) (progress_of f.device) c.in-Some.lease f.total c.in-Some.is
@@ -26,7 +26,7 @@ pub push_run-requires-clause-block : goal.push_run-requires-clause-block
 push_run-requires-clause-block c =
     let f = c.args.self.now in
     c.requires.flying.block
-    ∙ ap (λ b. cond b [] (codes_of_all (take f.moved (words_of (motion_of f))))) c.requires.output
+    ∙ ap (λ b. cond b [] (codes_of_all (take f.moved (words_in_flight (motion_of f))))) c.requires.output
     ∙ ap (λ ws. codes_of_all (take f.moved ws)) (sym (words (goal.at.push_run-requires-clause-block c).In-Some))
 
 pub returns-in-Some-clause-motion : goal.returns-in-Some-clause-motion
@@ -38,7 +38,7 @@ returns-in-Some-clause-motion c =
 pub returns-in-Some-clause-flying : goal.returns-in-Some-clause-flying
 returns-in-Some-clause-flying c =
     let f = c.args.self.now in
-    let ws = words_of (motion_of f) in
+    let ws = words_in_flight (motion_of f) in
     let few : length ws ≤ f.total = omega (arith, c.requires.flying.total) in
     record {
       kind = c.requires.flying.kind;

@@ -1,4 +1,0 @@
-use Rattle.kdf_top.proofs.making.make.Given as goal
-
-abbrev pub ghost-resume : goal.ghost-resume
-ghost-resume g a = a.text.items

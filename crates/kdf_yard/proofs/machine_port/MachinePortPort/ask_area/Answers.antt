@@ -1,0 +1,14 @@
+use Rattle.std.proofs.Common.{is_some, ap, subst, ◌∙◌}
+use Rattle.kdf_processor.specs.Effect.{Asks, IsOut}
+use Rattle.kdf_theory.specs.True.{one_if}
+use Rattle.kdf_yard.specs.Fields.MachinePort.{Acts}
+use Rattle.kdf_yard.proofs.Physical.PartsShow.{one_more}
+use Rattle.kdf_yard.proofs.machine_port.MachinePortPort.ask_area.Goals as goal
+
+pub returns-clause-answer : goal.returns-clause-answer
+returns-clause-answer c = one_more _ _ (c.is_some-is.ensures ∙ ap is_some c.locked.ensures)
+
+pub returns-clause-recorded : goal.returns-clause-recorded
+returns-clause-recorded c =
+    subst (λ a. Acts c.args.self.now (Asks (IsOut c.args.first c.args.last) a) c.tell.new.self)
+    (c.answer_of.ensures ∙ ap one_if (c.is_some-is.ensures ∙ ap is_some c.locked.ensures)) (c.tell.ensures (IsOut c.args.first c.args.last) tt)
