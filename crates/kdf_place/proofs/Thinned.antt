@@ -11,8 +11,8 @@ use Rattle.kdf_usercode.specs.declared.statement.What.{What}
 use Rattle.kdf_usercode.specs.declared.statement.What.TheVariants.{Star}
 use Rattle.kdf_usercode.specs.Faults.{FoundFault, found, least}
 use Rattle.kdf_usercode.specs.Grammar.{early, statements}
-use Rattle.kdf_usercode.specs.Grammar.{verdict as deck_verdict}
-use Rattle.kdf_usercode.specs.Reading.{Gives as ReadGives}
+use Rattle.kdf_usercode.specs.Grammar as grammar
+use Rattle.kdf_usercode.specs.Reading as reading
 use Rattle.kdf_usercode.specs.Thinned.{keeps, stars_after, thinned, thinned_deck}
 use Rattle.kdf_place.specs.Assembled.{placed_if_read, assembled}
 use Rattle.kdf_place.specs.declared.here.Here.{Here}
@@ -164,7 +164,7 @@ placed-thinned ss len size =
 -- ---- the text
 
 verdict-thinned : (first : Option FoundFault) (ss : List Statement) (len size : ℕ)
-    → placed_if_read (deck_verdict first (thinned AfterOther ss)) len size ≡ placed_if_read (deck_verdict first ss) len size
+    → placed_if_read (grammar.verdict first (thinned AfterOther ss)) len size ≡ placed_if_read (grammar.verdict first ss) len size
 verdict-thinned None ss len size = placed-thinned ss len size
 verdict-thinned (Some f) ss len size = refl
 
@@ -180,7 +180,7 @@ assembled-read size len text ss read long =
     ap (λ (n : ℕ). placed ss n size) long ∙ sym (ap (λ (d : Result (List Statement) FoundFault). placed_if_read d (length text) size) read)
     ∙ assembled-thinned size text
 
-pub assembled-unread : (size : ℕ) (text : List ℕ) (e : DeckError) → ReadGives (Err e) (length text) (thinned_deck AfterOther text)
+pub assembled-unread : (size : ℕ) (text : List ℕ) (e : DeckError) → reading.Gives (Err e) (length text) (thinned_deck AfterOther text)
     → Gives (Err e) (assembled size text)
 assembled-unread size text errors.Memory h = tt
 assembled-unread size text (errors.Fault fault place) h =
