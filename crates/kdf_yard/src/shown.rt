@@ -39,7 +39,7 @@ pub fn registers_of(programs: &[Program], p: u8) -> Option<&Registers>
 /// The texts that the program of slot `p` spooled, the oldest first; none where there is no such slot.
 pub fn texts_of(programs: &[Program], p: u8) -> &[Spooled]
     ensures { IfSome (find (λ (x : Program). x.p == p) programs.now)
-        (λ program. result.now ≡ program.spooled.items) }
+        (λ (program : Program). result.now ≡ program.spooled.items) }
 {
     match program_of(programs, p) {
         Some(program) => program.spooled.as_slice(),
@@ -51,7 +51,7 @@ pub fn texts_of(programs: &[Program], p: u8) -> &[Spooled]
 /// slot.
 pub fn stints_of(programs: &[Program], p: u8) -> &[Stint]
     ensures { IfSome (find (λ (x : Program). x.p == p) programs.now)
-        (λ program. result.now ≡ program.stints.items) }
+        (λ (program : Program). result.now ≡ program.stints.items) }
 {
     match program_of(programs, p) {
         Some(program) => program.stints.as_slice(),
@@ -83,10 +83,11 @@ pub fn stint_in<'a>(
     i: usize,
 ) -> (u8, bool, &'a Device)
     requires there { IsSomeAnd (find (λ (x : Program). x.p == p) programs.now)
-        (λ program. i < length program.stints.items) }
+        (λ (program : Program). i < length program.stints.items) }
     requires lent { IfSome (find (λ (x : Program). x.p == p) programs.now)
-        (λ program. HasLent (map spot_of places.now) (map keeping_of program.stints.items)) }
-    ensures { IfSome (find (λ (x : Program). x.p == p) programs.now) (λ program. IsTold (map spot_of places.now)
+        (λ (program : Program). HasLent (map spot_of places.now) (map keeping_of program.stints.items)) }
+    ensures { IfSome (find (λ (x : Program). x.p == p) programs.now)
+        (λ (program : Program). IsTold (map spot_of places.now)
         (slice_index_or (map keeping_of program.stints.items) i no_keeping) result.0 result.1 result.2.now) }
 {
     match program_of(programs, p) {

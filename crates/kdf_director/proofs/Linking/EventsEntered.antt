@@ -30,6 +30,7 @@ use Rattle.kdf_yard.proofs.Turns.FlightsMove.{ended_running, flown_running}
 use Rattle.kdf_director.proofs.Linking.EventsFollowed.{ended_follows, flown_follows, exchanged_follows, set_follows}
 use Rattle.kdf_theory.proofs.Course.WorldsJudged.{legal_added, true_added}
 use Rattle.kdf_transfer.proofs.Numbers.{limit_is}
+use Rattle.kdf_theory.proofs.Lists.{map_twice}
 
 -- ---- what is shown
 module _ (slots : List Slot) (reaches : List Reach) (seats : List Seat) (s : Shared) (J : List Entry) (a : Agrees slots reaches seats s J) where

@@ -12,7 +12,7 @@ use Rattle.kdf_director.specs.Fields.Following.{AreFollowing}
 use Rattle.kdf_theory.specs.Legal.{IsLegal, IsTrue}
 use Rattle.kdf_yard.specs.Fields.Parts.{Reach, Seat}
 use Rattle.kdf_places.specs.Shared.{Shared}
-use Rattle.kdf_yard.specs.Fields.Running.{IsRunning}
+use Rattle.kdf_yard.specs.Fields.Running.{AreLent, IsRunning}
 use Rattle.kdf_yard.specs.Fields.Standing.{Standing}
 use Rattle.kdf_theory.specs.Slots.{AreSlots}
 use Rattle.kdf_theory.specs.World.{need_of}
