@@ -16,7 +16,7 @@ TAB, ENTER, ESCAPE, DOWN = ("Tab", 9), ("Enter", 13), ("Escape", 27), ("ArrowDow
 MOST_TABS = 60
 
 # The entries that the pictures of a reader go through: a definition with a trail, a crate, a module, a call, a law, a field and a word of the library.
-SHOWN = ("kdf_lockout.Groups.is_out", "kdf_lockout", "kdf_theory.Shown", "kdf_director.machine.Machine::order_with", "kdf_director.laws.served.one_journal", "kdf_processor.State.Stock.store", "std.Prelude.map")
+SHOWN = ("kdf_lockout.Groups.is_out", "kdf_lockout", "kdf_theory.MachineView", "kdf_director.machine.Machine::order_with", "kdf_director.laws.served.one_journal", "kdf_processor.State.Stock.store", "std.Prelude.map")
 
 # From a step of the theorem to what TOB does.
 OF_TOB = "kdf_arith.obey.obey_arith", "kdf_arith.Digits.to_binary"
@@ -26,7 +26,7 @@ WALKS = [
     (["kdf_theory.Flights.touches"], "touches"),
     (["kdf_director.machine.Machine::store", "kdf_director.Lends.IsStored", "kdf_lockout.Groups.is_out"], "is_out"),
     (["kdf_processor.Lone.lone"], "lone"),
-    (["kdf_theory.Shown.ShowsSeen", "kdf_theory.Shown.states_seen", "kdf_theory.ByJournal.seen_of", "kdf_theory.Seen.seen"], "seen"),
+    (["kdf_theory.MachineView.ShowsSeen", "kdf_theory.MachineView.states_seen", "kdf_theory.ByJournal.seen_of", "kdf_theory.Seen.seen"], "seen"),
 ]
 
 
