@@ -2,8 +2,8 @@
 use Rattle.std.proofs.Common.{◌≡◌, ◌+◌, ℕ, List, Option, None, true, false, refl}
 use Rattle.kdf_journal.specs.declared.entry.Entry.{Entry}
 use Rattle.kdf_journal.specs.Steps.{Obeys, Holds, added}
-use Rattle.kdf_processor.specs.declared.step.Need.{Need}
-use Rattle.kdf_processor.specs.declared.step.Need.TheVariants.{Group, Device, Pool}
+use Rattle.kdf_journal.specs.declared.need.Need.{Need}
+use Rattle.kdf_journal.specs.declared.need.Need.TheVariants.{Group, Device, Pool}
 use Rattle.kdf_processor.specs.declared.step.Step.TheVariants.{Held}
 use Rattle.kdf_processor.specs.Effect.{Act, Nothing, Writes, Starts, Asks, Acquires, Releases, Spools}
 use Rattle.kdf_processor.specs.Effect.{Question, IsBusy, IsOut, Time, FreeOf, OfService}
@@ -12,7 +12,7 @@ use Rattle.kdf_processor.specs.Needs.{next_effect}
 use Rattle.kdf_processor.specs.Row.{done_by, next_of}
 use Rattle.kdf_processor.specs.State.{State}
 use Rattle.kdf_theory.specs.Legal.{note_of, note_of_outcome}
-use Rattle.kdf_theory.specs.World.{hold_left, hold_of}
+use Rattle.kdf_theory.specs.World.{hold_left}
 use Rattle.kdf_check.specs.CheckPort.{entry_after}
 use Rattle.kdf_check.specs.Entered.{entered, IsNote}
 
@@ -59,7 +59,7 @@ pub obeyed-free : (answer : Question → ℕ) (s : State) → hold_left (next_of
 obeyed-free answer s = effect_free answer (next_effect s) s
 
 -- a program that is held
-pub held-entered : (J : List Entry) (p : ℕ) (need : Need) (entry : Option Entry) → entered J p (Held need) entry ≡ added J (Holds p (hold_of need))
+pub held-entered : (J : List Entry) (p : ℕ) (need : Need) (entry : Option Entry) → entered J p (Held need) entry ≡ added J (Holds p need)
 held-entered J p (Group g) entry = refl
 held-entered J p (Device d) entry = refl
 held-entered J p (Pool kind) entry = refl

@@ -1,12 +1,12 @@
 -- The programs go on keeping to the journal, whatever step follows.
 use Rattle.std.proofs.Common.{◌≡◌, ◌≢◌, ℕ, ◌<◌, ◌≤◌, true, not, List, [], length, get_or, set, Option, Some, None, is_some, refl, sym, ap, ◌∙◌, subst, ⊎_elim}
 use Rattle.std.proofs.Common.{arith}
-use Rattle.std.specs.Option.{option_map}
 use Rattle.std.proofs.lemmas.Bool.{cases_eq, cases_lt, true≢false}
 use Rattle.std.proofs.Math.ListN.{get_or-eq_default}
 use Rattle.std.proofs.lemmas.List.{get_or_default, get_or-set_same, get_or-set_other, length-set}
+use Rattle.kdf_journal.specs.declared.need.Need.{Need}
 use Rattle.kdf_journal.specs.declared.entry.Entry.{Entry}
-use Rattle.kdf_journal.specs.Counts.{Hold, answers, calls, last_hold, over, ran}
+use Rattle.kdf_journal.specs.Counts.{answers, calls, last_hold, over, ran}
 use Rattle.kdf_journal.specs.Steps.{JournalStep, added}
 use Rattle.kdf_journal.proofs.Added.{answers_by, hold_by, last_hold-added, ran_by}
 use Rattle.kdf_journal.proofs.Bounds.{ran-le-calls}
@@ -23,7 +23,6 @@ use Rattle.kdf_theory.specs.Next.{next}
 use Rattle.kdf_theory.specs.Served.{is_true_for}
 use Rattle.kdf_theory.specs.Slots.{slot_of, start}
 use Rattle.kdf_theory.specs.ByJournal.{lone_world, own}
-use Rattle.kdf_theory.specs.World.{need_of}
 use Rattle.kdf_theory.proofs.Course.OneJournal.{true_for_added, true_of_for}
 use Rattle.kdf_theory.proofs.Course.WorldsJudged.{legal_added}
 use Rattle.kdf_theory.proofs.Course.OwnSteps.{asked-start, own-ran, own-same}
@@ -134,7 +133,7 @@ module _ (answers : ℕ → ℕ → Type 0) (slots : List Slot) (J : List Entry)
       there = f.there;
       number = f.number;
       own_is = f.own_is ∙ sym (t.others q ne);
-      hold_is = f.hold_is ∙ ap (option_map need_of) (sym (t.other_holds q ne));
+      hold_is = f.hold_is ∙ sym (t.other_holds q ne);
     }
 
     pub turned-keeps : Keeps answers slots K table' (set programs p (Some x))
@@ -155,14 +154,14 @@ module _ (answers : ℕ → ℕ → Type 0) (slots : List Slot) (J : List Entry)
   -- ---- after a step that no program's order makes
   module _ (s : JournalStep) (table' : List (Option Pending)) (meets : Meets (lone_world slots J) slots J 0 s) (noted : Noted (is_true_for answers slots J) s)
       (tells : Tells slots (added J s) table')
-      (none_ran : (q : ℕ) → ran_by q s ≡ 0) (none_told : (q : ℕ) → answers_by q s ≡ []) (holds : (q : ℕ) (o : Option Hold) → hold_by q o s ≡ o) where
+      (none_ran : (q : ℕ) → ran_by q s ≡ 0) (none_told : (q : ℕ) → answers_by q s ≡ []) (holds : (q : ℕ) (o : Option Need) → hold_by q o s ≡ o) where
     still-at : (q : ℕ) (o : Option Program) → IsKeptAt slots J q o → IsKeptAt slots (added J s) q o
     still-at q None none = none
     still-at q (Some y) f = record {
       there = f.there;
       number = f.number;
       own_is = f.own_is ∙ sym (own-same slots J s q (none_ran q) (none_told q));
-      hold_is = f.hold_is ∙ ap (option_map need_of) (sym (last_hold-added q J s ∙ holds q (last_hold q J)));
+      hold_is = f.hold_is ∙ sym (last_hold-added q J s ∙ holds q (last_hold q J));
     }
 
     pub still-keeps : Keeps answers slots (added J s) table' programs

@@ -6,8 +6,9 @@ use Rattle.std.proofs.lemmas.Bool.{cases_eq, cases_lt, eq-eqb, ne_eqb}
 use Rattle.std.proofs.lemmas.List.{get_or-set_same, get_or-set_other, length-set}
 use Rattle.kdf_transfer.specs.AtOnce.{has_area}
 use Rattle.kdf_transfer.specs.declared.order.TransferOrder.{TransferOrder}
+use Rattle.kdf_journal.specs.declared.need.Need.{Need}
 use Rattle.kdf_journal.specs.declared.entry.Entry.{Entry}
-use Rattle.kdf_journal.specs.Counts.{Hold, moved_if, pending}
+use Rattle.kdf_journal.specs.Counts.{moved_if, pending}
 use Rattle.kdf_journal.specs.Steps.{Note, JournalStep, Obeys, Holds, Moves, Ends, added}
 use Rattle.kdf_journal.proofs.Added.{moved_by, pending_by, pending-added}
 use Rattle.kdf_processor.specs.Effect.{Question, Effect, Failing, Ending, Changing, Fetching, Keeping, Testing, Starting, Asking, Claiming, Returning, Spooling}
@@ -190,6 +191,6 @@ still_keeps slots J s table are l tells stays moves =
     quiet_keeps slots J s table tells stays
     (λ q x g. ap (λ (f : Option Flight). touches f g) (flights-quiet slots J s q (legal_asked slots J l q) stays moves (legal-course slots J are l q) x))
 
-pub held_keeps : (slots : List Slot) (J : List Entry) (p : ℕ) (by : Hold) (table : List (Option Pending)) → AreSlots slots → IsLegal slots J
+pub held_keeps : (slots : List Slot) (J : List Entry) (p : ℕ) (by : Need) (table : List (Option Pending)) → AreSlots slots → IsLegal slots J
     → Tells slots J table → Tells slots (added J (Holds p by)) table
 held_keeps slots J p by table are l tells = still_keeps slots J (Holds p by) table are l tells (λ x. refl) (λ x. refl)

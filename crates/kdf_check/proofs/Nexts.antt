@@ -1,10 +1,10 @@
 -- Which program is next, by the programs that are followed.
 use Rattle.std.proofs.Common.{◌≡◌, ℕ, ◌&&◌, Bool, not, List, [], ◌∷◌, length, find, Option, Some, None, refl, sym, ap, ap₂, ◌∙◌, arith}
 use Rattle.std.specs.List.{list_any}
-use Rattle.std.specs.Option.{option_map}
 use Rattle.std.proofs.Math.Path.{fun_ext}
+use Rattle.kdf_journal.specs.declared.need.Need.{Need}
 use Rattle.kdf_journal.specs.declared.entry.Entry.{Entry}
-use Rattle.kdf_journal.specs.Counts.{Hold, last_hold, over, priorities, slot_numbers}
+use Rattle.kdf_journal.specs.Counts.{last_hold, over, priorities, slot_numbers}
 use Rattle.kdf_transfer.specs.Slots.{Slot}
 use Rattle.kdf_course.specs.World as course
 use Rattle.kdf_course.specs.World.{can_go, lives, stands}
@@ -13,7 +13,6 @@ use Rattle.kdf_processor.specs.State.{State, Stock}
 use Rattle.kdf_processor.specs.View.{is_pending}
 use Rattle.kdf_theory.specs.Next.{any_live, lone_dispatched, next, there_in}
 use Rattle.kdf_theory.specs.ByJournal.{lone_world}
-use Rattle.kdf_theory.specs.World.{need_of}
 use Rattle.kdf_theory.proofs.Course.LegalFacts.{legal_alive}
 use Rattle.kdf_check.specs.Around.{Around, around_by}
 use Rattle.kdf_check.specs.declared.table.Pending.{Pending}
@@ -56,12 +55,12 @@ module _ (answers : ℕ → ℕ → Type 0) (slots : List Slot) (J : List Entry)
   live-so places r b same found is = sym on-same ∙ ap (list_any is_on) (sym same) ∙ sym found ∙ is
 
   module _ (around : Around) (is : IsAround slots J around) where
-    stopped-by : (p : ℕ) (x : Program) (h : Option Hold) → x.p ≡ p → IsFollowed slots J p x
-        → is_stopped around x (option_map need_of h) ≡ stands (lone_dispatched slots J) p h
+    stopped-by : (p : ℕ) (x : Program) (h : Option Need) → x.p ≡ p → IsFollowed slots J p x
+        → is_stopped around x h ≡ stands (lone_dispatched slots J) p h
     stopped-by p x None n f = refl
     stopped-by p x (Some by) n f =
-        ap₂ (λ (q : ℕ) (s : Stock). is_pending (shown_by q around s) (need_of by)) n (ap (λ (s : State). s.stock) f.own_is)
-        ∙ pending-here slots J p around is (need_of by)
+        ap₂ (λ (q : ℕ) (s : Stock). is_pending (shown_by q around s) by) n (ap (λ (s : State). s.stock) f.own_is)
+        ∙ pending-here slots J p around is by
 
     goes-at : (p : ℕ) (o : Option Program) → IsKeptAt slots J p o → goes around o ≡ can_go (lone_dispatched slots J) J p
     unfolding can_go lives

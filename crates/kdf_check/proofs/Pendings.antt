@@ -13,8 +13,8 @@ use Rattle.kdf_journal.specs.Counts.{answers, over, pending, ran}
 use Rattle.kdf_transfer.specs.ByNumber.{device_count}
 use Rattle.kdf_transfer.specs.Devices.{is_kind, test_of}
 use Rattle.kdf_transfer.specs.Slots.{Slot}
-use Rattle.kdf_processor.specs.declared.step.Need.{Need}
-use Rattle.kdf_processor.specs.declared.step.Need.TheVariants.{Group, Device, Pool}
+use Rattle.kdf_journal.specs.declared.need.Need.{Need}
+use Rattle.kdf_journal.specs.declared.need.Need.TheVariants.{Group, Device, Pool}
 use Rattle.kdf_processor.specs.Claims.{taken_device}
 use Rattle.kdf_processor.specs.Effect.{Question, IsBusy, IsOut, Time, FreeOf, OfService}
 use Rattle.kdf_processor.specs.State.{Claims, device_in, word_in}

@@ -1,9 +1,8 @@
 -- A try as a step of the journal.
 use Rattle.std.proofs.Common.{◌≡◌, ◌≢◌, ℕ, List, Option, Some, None, cond, eqb, refl, sym, ap, ap₂, ◌∙◌, subst}
-use Rattle.std.specs.Option.{option_map}
 use Rattle.std.proofs.lemmas.Bool.{eq-eqb, ne_eqb}
 use Rattle.kdf_journal.specs.declared.entry.Entry.{Entry}
-use Rattle.kdf_journal.specs.Counts.{Hold, last_hold}
+use Rattle.kdf_journal.specs.Counts.{last_hold}
 use Rattle.kdf_journal.specs.Steps.{Note, JournalStep, Obeys, Holds, added}
 use Rattle.kdf_journal.proofs.Added.{last_hold-added}
 use Rattle.kdf_transfer.specs.Slots.{Slot}
@@ -11,7 +10,7 @@ use Rattle.kdf_schedule.specs.Calls.{AnOrder}
 use Rattle.kdf_course.specs.Follows.{call_of}
 use Rattle.kdf_course.specs.Legal.{Noted}
 use Rattle.kdf_processor.specs.declared.registers.Registers.{Registers}
-use Rattle.kdf_processor.specs.declared.step.Need.{Need}
+use Rattle.kdf_journal.specs.declared.need.Need.{Need}
 use Rattle.kdf_processor.specs.declared.step.Step.{Step}
 use Rattle.kdf_processor.specs.State.{State}
 use Rattle.kdf_alone.specs.declared.lone_port.LonePort.{LonePort}
@@ -22,9 +21,8 @@ use Rattle.kdf_theory.specs.Next.{next}
 use Rattle.kdf_theory.specs.Served.{is_true_for}
 use Rattle.kdf_theory.specs.Slots.{AreSlots}
 use Rattle.kdf_theory.specs.ByJournal.{lone_world, own}
-use Rattle.kdf_theory.specs.World.{first_need, hold_left, hold_of, need_of}
+use Rattle.kdf_theory.specs.World.{first_need, hold_left}
 use Rattle.kdf_theory.proofs.Course.OneJournal.{heard_note}
-use Rattle.kdf_theory.proofs.Course.WorldsJudged.{need_again}
 use Rattle.kdf_theory.proofs.Course.OrdersObeyed.{obeys-others, obeys-own}
 use Rattle.kdf_theory.proofs.Course.OwnSteps.{own-same}
 use Rattle.kdf_check.specs.Around.{Around}
@@ -44,7 +42,7 @@ pub record IsTurned (answers : ℕ → ℕ → Type 0) (slots : List Slot) (J : 
   pub goes_on : GoesOn answers slots J AnOrder K
   pub number : x.p ≡ p
   pub own_is : state_with x.registers x.bench ≡ own slots K p
-  pub hold_is : x.hold ≡ option_map need_of (last_hold p K)
+  pub hold_is : x.hold ≡ last_hold p K
   pub others : (q : ℕ) → p ≢ q → own slots K q ≡ own slots J q
   pub other_holds : (q : ℕ) → p ≢ q → last_hold q K ≡ last_hold q J
   pub tells : Tells slots K table
@@ -54,7 +52,7 @@ record IsTurn (slots : List Slot) (J : List Entry) (p : ℕ) (ending : Step) (re
     (entry : Option Entry) (K : List Entry) : Type 0 where
   pub state : state_with registers bench ≡ own slots K p
   pub others : (q : ℕ) → p ≢ q → own slots K q ≡ own slots J q
-  pub hold : hold_left ending ≡ option_map need_of (last_hold p K)
+  pub hold : hold_left ending ≡ last_hold p K
   pub other_holds : (q : ℕ) → p ≢ q → last_hold q K ≡ last_hold q J
   pub tells : Tells slots K table
   pub entered_is : entered J p ending entry ≡ K
@@ -71,13 +69,13 @@ module _ (slots : List Slot) (J : List Entry) (p : ℕ) (around : Around) (endin
   note = note_of s (lone_truth slots J heard p)
 
   meets_by : (o : Option Need) → first_need (lone_world slots J) p ≡ o → Meets (lone_world slots J) slots J heard (step_by slots J heard p o)
-  meets_by None free = (turn_is, ap (option_map hold_of) free, refl)
-  meets_by (Some need) held = (turn_is, ap (option_map hold_of) held)
+  meets_by None free = (turn_is, free, refl)
+  meets_by (Some need) held = (turn_is, held)
 
-  hold_here : (o : Option Hold) → cond (eqb p p) o (last_hold p J) ≡ o
+  hold_here : (o : Option Need) → cond (eqb p p) o (last_hold p J) ≡ o
   hold_here o = ap (λ b. cond b o (last_hold p J)) (eq-eqb p p refl)
 
-  hold_there : (q : ℕ) (o : Option Hold) → p ≢ q → cond (eqb p q) o (last_hold q J) ≡ last_hold q J
+  hold_there : (q : ℕ) (o : Option Need) → p ≢ q → cond (eqb p q) o (last_hold q J) ≡ last_hold q J
   hold_there q o ne = ap (λ b. cond b o (last_hold q J)) (ne_eqb p q ne)
 
   left_by : (x : Program) (table : List (Option Pending)) (entry : Option Entry) (o : Option Need) → first_need (lone_world slots J) p ≡ o
@@ -89,20 +87,18 @@ module _ (slots : List Slot) (J : List Entry) (p : ℕ) (around : Around) (endin
       record {
         state = t.state ∙ sym (obeys-own slots J p heard note l meets);
         others = λ q ne. (obeys-others slots J p heard note l meets are q ne).0;
-        hold = ap hold_left t.ending_is ∙ obeyed-free answer s ∙ ap (option_map need_of) (sym (last_hold-added p J (Obeys p note) ∙ hold_here None));
+        hold = ap hold_left t.ending_is ∙ obeyed-free answer s ∙ sym (last_hold-added p J (Obeys p note) ∙ hold_here None);
         other_holds = λ q ne. last_hold-added q J (Obeys p note) ∙ hold_there q None ne;
         tells = subst (Tells slots (added J (Obeys p note))) (sym t.table_is) (obeyed_keeps slots J p heard note around.table are l tells meets t.inside);
         entered_is = ap₂ (entered J p) t.ending_is t.entry_is ∙ obeyed-entered J p answer s;
       }
   left_by x table entry (Some need) held t =
-      let by : Hold = hold_of need in
       record {
-        state = t.state ∙ sym (own-same slots J (Holds p by) p refl refl);
-        others = λ q ne. own-same slots J (Holds p by) q refl refl;
-        hold = ap hold_left t.ending_is ∙ ap (λ (n : Need). Some n) (sym (need_again need))
-            ∙ ap (option_map need_of) (sym (last_hold-added p J (Holds p by) ∙ hold_here (Some by)));
-        other_holds = λ q ne. last_hold-added q J (Holds p by) ∙ hold_there q (Some by) ne;
-        tells = subst (Tells slots (added J (Holds p by))) (sym t.table_is) (held_keeps slots J p by around.table are l tells);
+        state = t.state ∙ sym (own-same slots J (Holds p need) p refl refl);
+        others = λ q ne. own-same slots J (Holds p need) q refl refl;
+        hold = ap hold_left t.ending_is ∙ sym (last_hold-added p J (Holds p need) ∙ hold_here (Some need));
+        other_holds = λ q ne. last_hold-added q J (Holds p need) ∙ hold_there q (Some need) ne;
+        tells = subst (Tells slots (added J (Holds p need))) (sym t.table_is) (held_keeps slots J p need around.table are l tells);
         entered_is = ap (λ (e : Step). entered J p e entry) t.ending_is ∙ held-entered J p need entry;
       }
 

@@ -7,7 +7,6 @@ use Rattle.kdf_journal.specs.Joined.{pushed}
 use Rattle.kdf_journal.specs.Steps.{hold_entry}
 use Rattle.kdf_processor.specs.declared.step.Step.{Step}
 use Rattle.kdf_processor.specs.declared.step.Step.TheVariants as ending
-use Rattle.kdf_theory.specs.World.{hold_of}
 
 -- a journal with the entry that tells of an order, if there is one
 abbrev pub with_entry : List Entry → Option Entry → List Entry
@@ -16,7 +15,7 @@ with_entry J (Some entry) = pushed J entry
 
 -- the turn of program p ended so, and the entry tells of its order
 abbrev pub entered : List Entry → ℕ → Step → Option Entry → List Entry
-entered J p (ending.Held need) entry = pushed J (hold_entry p (hold_of need))
+entered J p (ending.Held need) entry = pushed J (hold_entry p need)
 entered J p (ending.Fails kind) entry = pushed (pushed J (Ran p 1)) (Fail p kind)
 entered J p ending.Ends entry = pushed (pushed J (Ran p 1)) (Ended p)
 entered J p ending.Done entry = with_entry (pushed J (Ran p 1)) entry

@@ -1,7 +1,6 @@
 -- How programs that are followed, and the table beside them, keep to a journal. `answers n a` says that a is one of the service's
 -- answers to n.
 use Rattle.std.specs.Prelude.{◌≡◌, ℕ, zero, suc, ◌&&◌, not, Bool, true, false, List, length, Option, Some, None, is_some, slice_index_or}
-use Rattle.std.specs.Option.{option_map}
 use Rattle.kdf_journal.specs.declared.entry.Entry.{Entry}
 use Rattle.kdf_journal.specs.Counts.{last_hold}
 use Rattle.kdf_journal.specs.Steps.{JournalStep, added}
@@ -9,7 +8,7 @@ use Rattle.kdf_transfer.specs.Slots.{Slot}
 use Rattle.kdf_schedule.specs.Calls.{Call, AnOrder}
 use Rattle.kdf_course.specs.Follows.{call_of}
 use Rattle.kdf_course.specs.Legal.{Noted}
-use Rattle.kdf_processor.specs.declared.step.Need.{Need}
+use Rattle.kdf_journal.specs.declared.need.Need.{Need}
 use Rattle.kdf_processor.specs.Lone.{is_live}
 use Rattle.kdf_processor.specs.View.{is_pending}
 use Rattle.kdf_alone.specs.LonePort.{state_with, stock_of}
@@ -18,7 +17,6 @@ use Rattle.kdf_theory.specs.Next.{any_live}
 use Rattle.kdf_theory.specs.Served.{is_true_for, IsTrueFor}
 use Rattle.kdf_theory.specs.Slots.{AreSlots, slot_of}
 use Rattle.kdf_theory.specs.ByJournal.{lone_world, own}
-use Rattle.kdf_theory.specs.World.{need_of}
 use Rattle.kdf_check.specs.Around.{Around}
 use Rattle.kdf_check.specs.declared.table.Pending.{Pending}
 use Rattle.kdf_check.specs.declared.program.Program.{Program}
@@ -53,7 +51,7 @@ pub record IsFollowed (slots : List Slot) (J : List Entry) (p : ℕ) (x : Progra
   pub there : is_some (slot_of slots p) ≡ true
   pub number : x.p ≡ p
   pub own_is : state_with x.registers x.bench ≡ own slots J p
-  pub hold_is : x.hold ≡ option_map need_of (last_hold p J)
+  pub hold_is : x.hold ≡ last_hold p J
 
 abbrev pub IsKeptAt : List Slot → List Entry → ℕ → Option Program → Type 0
 IsKeptAt slots J p None = is_some (slot_of slots p) ≡ false

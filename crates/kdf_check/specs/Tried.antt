@@ -5,7 +5,7 @@ use Rattle.kdf_journal.specs.Counts.{over}
 use Rattle.kdf_journal.specs.Steps.{JournalStep, Obeys, Holds}
 use Rattle.kdf_transfer.specs.Slots.{Slot}
 use Rattle.kdf_processor.specs.declared.registers.Registers.{Registers}
-use Rattle.kdf_processor.specs.declared.step.Need.{Need}
+use Rattle.kdf_journal.specs.declared.need.Need.{Need}
 use Rattle.kdf_processor.specs.declared.step.Step.{Step}
 use Rattle.kdf_processor.specs.Effect.{Question}
 use Rattle.kdf_processor.specs.Outcome.{Outcome, held_or}
@@ -16,7 +16,7 @@ use Rattle.kdf_theory.specs.Legal.{note_of, IsLegal, IsTrue}
 use Rattle.kdf_theory.specs.Slots.{AreSlots}
 use Rattle.kdf_theory.specs.ByJournal.{lone_world, own}
 use Rattle.kdf_theory.specs.True.{truth}
-use Rattle.kdf_theory.specs.World.{first_need, hold_of}
+use Rattle.kdf_theory.specs.World.{first_need}
 use Rattle.kdf_check.specs.Around.{Around}
 use Rattle.kdf_check.specs.declared.table.Pending.{Pending}
 use Rattle.kdf_check.specs.CheckPort.{entry_after, IsInTable, table_after}
@@ -37,7 +37,7 @@ outcome_of slots J heard p = outcome_by slots J heard p (first_need (lone_world 
 -- the step that it makes in its turn: it is held, or it obeys
 abbrev pub step_by : List Slot → List Entry → ℕ → ℕ → Option Need → JournalStep
 step_by slots J heard p None = Obeys p (note_of (own slots J p) (lone_truth slots J heard p))
-step_by slots J heard p (Some need) = Holds p (hold_of need)
+step_by slots J heard p (Some need) = Holds p need
 
 abbrev pub step_of : List Slot → List Entry → ℕ → ℕ → JournalStep
 step_of slots J heard p = step_by slots J heard p (first_need (lone_world slots J) p)

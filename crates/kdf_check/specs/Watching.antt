@@ -1,7 +1,7 @@
 -- What is shown of a program in a world.
 use Rattle.std.specs.Prelude.{ℕ}
 use Rattle.kdf_transfer.specs.Devices.{test_of}
-use Rattle.kdf_processor.specs.declared.step.Need.TheVariants.{Group, Device, Pool}
+use Rattle.kdf_journal.specs.declared.need.Need.TheVariants.{Group, Device, Pool}
 use Rattle.kdf_processor.specs.Effect.{Question}
 use Rattle.kdf_processor.specs.State.{device_in, word_in}
 use Rattle.kdf_processor.specs.View.{View}

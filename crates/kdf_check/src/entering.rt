@@ -5,7 +5,7 @@ ghost use Rattle.kdf_journal.specs.declared.entry.Entry.TheVariants.{Ran};
 ghost use Rattle.kdf_journal.specs.Joined.{pushed};
 ghost use Rattle.kdf_journal.specs.Steps.{hold_entry};
 ghost use Rattle.kdf_theory.specs.InARow.{ran_on};
-ghost use Rattle.kdf_theory.specs.World.{hold_left, hold_of};
+ghost use Rattle.kdf_theory.specs.World.{hold_left};
 ghost use Rattle.kdf_check.specs.Entered.{entered, with_entry, IsNote};
 
 use kdf_journal::{CALL_LIMIT, Entry, Journal, MOVE_LIMIT};
@@ -61,7 +61,7 @@ fn write(journal: &mut Journal, p: u8, n: u32, entry: Option<Entry>)
 
 /// The entry of a hold by a need.
 fn entry_of(p: u8, need: Need) -> Entry
-    ensures { result ≡ hold_entry p (hold_of need) }
+    ensures { result ≡ hold_entry p need }
 {
     match need {
         Need::Group(group) => Entry::Lov { p, group },

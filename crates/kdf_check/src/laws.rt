@@ -2,8 +2,9 @@
 //! them `slots` are those that are loaded, `J` is a journal, `lines` are what the lines of a printed journal tell, and `rule` is
 //! the service's.
 ghost use Rattle.std.specs.Prelude.{◌≡◌, ℕ, ◌+◌, List, None, Option, not, slice_set, true};
+ghost use Rattle.kdf_journal.specs.declared.need.Need.{Need};
 ghost use Rattle.kdf_journal.specs.declared.entry.Entry.{Entry};
-ghost use Rattle.kdf_journal.specs.Counts.{Hold, over};
+ghost use Rattle.kdf_journal.specs.Counts.{over};
 ghost use Rattle.kdf_journal.specs.Steps.{Note, Ends, Holds, Moves, Obeys, Sets, Swaps, Waits, added};
 ghost use Rattle.kdf_schedule.specs.declared.event.Event.{Event};
 ghost use Rattle.kdf_service.specs.Rules.{IsService};
@@ -73,7 +74,7 @@ pub fn table_kept()
         → IsLegal slots J → Tells slots J table → Tells slots (added J (Ends d)) (slice_set table d None) }
     ensures moved { (slots : List Slot) (J : List Entry) (d n : ℕ) (table : List (Option Pending)) → AreSlots slots
         → IsLegal slots J → Tells slots J table → Tells slots (added J (Moves d n)) table }
-    ensures held { (slots : List Slot) (J : List Entry) (p : ℕ) (by : Hold) (table : List (Option Pending))
+    ensures held { (slots : List Slot) (J : List Entry) (p : ℕ) (by : Need) (table : List (Option Pending))
         → AreSlots slots → IsLegal slots J → Tells slots J table → Tells slots (added J (Holds p by)) table }
     ensures waited { (slots : List Slot) (J : List Entry) (table : List (Option Pending)) → AreSlots slots
         → IsLegal slots J → Tells slots J table → Tells slots (added J Waits) table }

@@ -1,8 +1,8 @@
 -- The steps of the course answer the calls, and a legal and whole journal has the steps of the course, where a function says
 -- the notes.
 use Rattle.std.proofs.Common.{◌≡◌, ℕ, List, [], ◌∷◌, ◌++◌, Option, Some, None, Bool, true, false, cond, ◌⊎◌, inl, inr, refl, sym, ◌∙◌, ap, ap₂, append_assoc}
+use Rattle.kdf_journal.specs.declared.need.Need.{Need}
 use Rattle.kdf_journal.specs.declared.entry.Entry.{Entry}
-use Rattle.kdf_journal.specs.Counts.{Hold}
 use Rattle.kdf_journal.specs.Steps.{Note, JournalStep, journal_of, steps}
 use Rattle.kdf_schedule.specs.Calls.{Call, AnOrder, AMove, AnEnd, AClock, ASwap}
 use Rattle.kdf_course.specs.World.{Dispatch, next, any_live}
@@ -13,7 +13,7 @@ use Rattle.kdf_course.proofs.Fronts.{determined}
 use Rattle.kdf_course.proofs.Reaching.{answered-append, reach-nil}
 use Rattle.kdf_course.proofs.Steps.{legal-noted}
 
-call_of-turn : (note : ℕ → Note) (p : ℕ) (o : Option Hold) → call_of (turn_step note p o) ≡ AnOrder
+call_of-turn : (note : ℕ → Note) (p : ℕ) (o : Option Need) → call_of (turn_step note p o) ≡ AnOrder
 call_of-turn note p None = refl
 call_of-turn note p (Some by) = refl
 

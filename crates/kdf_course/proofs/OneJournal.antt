@@ -1,8 +1,9 @@
 -- Under a schedule that doesn't set the clock back and exchanges slots alone, there is a journal.
 use Rattle.std.proofs.Common.{◌≡◌, ℕ, zero, suc, ◌<◌, ◌≤◌, List, [], ◌∷◌, ◌++◌, Option, Some, None, Bool, true, false, cond, refl, sym, ◌∙◌, ap, subst}
 use Rattle.std.specs.Prelude.{replicate}
+use Rattle.kdf_journal.specs.declared.need.Need.{Need}
 use Rattle.kdf_journal.specs.declared.entry.Entry.{Entry}
-use Rattle.kdf_journal.specs.Counts.{Hold, clock}
+use Rattle.kdf_journal.specs.Counts.{clock}
 use Rattle.kdf_journal.specs.Steps.{Note, JournalStep, journal_of}
 use Rattle.kdf_journal.proofs.Added.{clock_by, clock-added}
 use Rattle.kdf_journal.proofs.Steps.{steps-journal_of}
@@ -42,7 +43,7 @@ calls-rise t (Clock u ∷ es) rises = rw calls-after (rises.0, calls-rise u es r
 calls-rise t (Swap p q ∷ es) rises = rw calls-after (rises.0, rises.1, calls-rise t es rises.2)
 
 module _ (w : Dispatch) (admits : ℕ → Note → Type 0) (note : ℕ → Note) (some : (p : ℕ) → admits p (note p)) (J : List Entry) where
-  meets-turn : (p : ℕ) (o : Option Hold) → next w J ≡ Some p → w.held p ≡ o → Meets w admits J (turn_step note p o)
+  meets-turn : (p : ℕ) (o : Option Need) → next w J ≡ Some p → w.held p ≡ o → Meets w admits J (turn_step note p o)
   meets-turn p None n need = (n, need, some p)
   meets-turn p (Some by) n need = (n, need)
 
@@ -58,7 +59,7 @@ module _ (w : Dispatch) (admits : ℕ → Note → Type 0) (note : ℕ → Note)
   meets-step (AClock t) cs live rises = rises.0
   meets-step (ASwap p q) cs live rises = (rises.0, rises.1)
 
-same_time-turn : (t : ℕ) (note : ℕ → Note) (p : ℕ) (o : Option Hold) → clock_by t (turn_step note p o) ≡ t
+same_time-turn : (t : ℕ) (note : ℕ → Note) (p : ℕ) (o : Option Need) → clock_by t (turn_step note p o) ≡ t
 same_time-turn t note p None = refl
 same_time-turn t note p (Some by) = refl
 

@@ -1,13 +1,13 @@
 -- The one course that programs take under a schedule, as a function, where a function says the notes.
 use Rattle.std.specs.Prelude.{ℕ, List, [], ◌∷◌, Option, Some, None, if◌then◌else◌}
+use Rattle.kdf_journal.specs.declared.need.Need.{Need}
 use Rattle.kdf_journal.specs.declared.entry.Entry.{Entry}
-use Rattle.kdf_journal.specs.Counts.{Hold}
 use Rattle.kdf_journal.specs.Steps.{Note, JournalStep, Obeys, Holds, Waits, Moves, Ends, Sets, Swaps, journal_of}
 use Rattle.kdf_schedule.specs.Calls.{Call, AnOrder, AMove, AnEnd, AClock, ASwap}
 use Rattle.kdf_course.specs.World.{Dispatch, next, any_live}
 
 -- the step in which it is the turn of program p, which this holds up
-abbrev pub turn_step : (ℕ → Note) → ℕ → Option Hold → JournalStep
+abbrev pub turn_step : (ℕ → Note) → ℕ → Option Need → JournalStep
 turn_step note p None = Obeys p (note p)
 turn_step note p (Some by) = Holds p by
 

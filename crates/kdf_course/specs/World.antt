@@ -2,21 +2,22 @@
 -- J is the journal so far, oldest entry first.
 use Rattle.std.specs.Prelude.{ℕ, List, not, ◌&&◌, Bool, false, Option, Some, None, find}
 use Rattle.std.specs.List.{list_any}
+use Rattle.kdf_journal.specs.declared.need.Need.{Need}
 use Rattle.kdf_journal.specs.declared.entry.Entry.{Entry}
-use Rattle.kdf_journal.specs.Counts.{Hold, last_hold, over, priorities, slot_numbers}
+use Rattle.kdf_journal.specs.Counts.{last_hold, over, priorities, slot_numbers}
 
 -- which programs there are, what of each is pending, and what holds its next order up
 pub record Dispatch : Type 0 where
   pub there : ℕ → Bool
-  pub pending : ℕ → Hold → Bool
-  pub held : ℕ → Option Hold
+  pub pending : ℕ → Need → Bool
+  pub held : ℕ → Option Need
 
 -- a program is live until it has ended or failed
 unfoldable pub lives : (there : ℕ → Bool) → List Entry → ℕ → Bool
 lives there J p = there p && not (over p J)
 
 -- what held a program is pending still
-abbrev pub stands : Dispatch → ℕ → Option Hold → Bool
+abbrev pub stands : Dispatch → ℕ → Option Need → Bool
 stands w p None = false
 stands w p (Some by) = w.pending p by
 

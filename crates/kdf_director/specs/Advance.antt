@@ -5,7 +5,7 @@ use Rattle.kdf_journal.specs.Steps.{Note, Quiet, Began, Answered, Took, Gave, Fa
 use Rattle.kdf_processor.specs.Effect.{Question}
 use Rattle.kdf_transfer.specs.Slots.{Slot}
 use Rattle.kdf_processor.specs.State.{State}
-use Rattle.kdf_processor.specs.declared.step.Need.{Need}
+use Rattle.kdf_journal.specs.declared.need.Need.{Need}
 use Rattle.kdf_processor.specs.declared.step.Step.{Step}
 use Rattle.kdf_processor.specs.declared.step.Step.TheVariants as ending
 use Rattle.kdf_director.specs.declared.machine.Progress.{Progress}
@@ -18,7 +18,7 @@ use Rattle.kdf_theory.specs.Seen.{begun_row}
 use Rattle.kdf_theory.specs.MachineView.{MachineView, entered, state_at, state_of, world_of}
 use Rattle.kdf_theory.specs.ByJournal.{is_of}
 use Rattle.kdf_theory.specs.True.{truth}
-use Rattle.kdf_theory.specs.World.{first_need, hold_of}
+use Rattle.kdf_theory.specs.World.{first_need}
 use Rattle.kdf_theory.specs.Asked.{IsHeard}
 
 -- the states after program p obeyed its next order, by which a transfer only begins, and which was answered so, if it
@@ -44,7 +44,7 @@ pub record HeldUp (old new : MachineView) (p : ℕ) (need : Need) : Type 0 where
   pub was_next : next (world_of old) old.slots old.journal ≡ Some p
   pub held : first_need (world_of old) p ≡ Some need
   pub states : new.states ≡ old.states
-  pub journal : new.journal ≡ added old.journal (Holds p (hold_of need))
+  pub journal : new.journal ≡ added old.journal (Holds p need)
 
 -- no program that is live can go on, and nothing else changes
 pub record Waited (old new : MachineView) : Type 0 where

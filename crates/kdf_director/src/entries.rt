@@ -9,7 +9,7 @@ ghost use Rattle.kdf_yard.specs.Fields.Parts.{seat_of};
 ghost use Rattle.kdf_director.specs.Runs.{held_after};
 ghost use Rattle.kdf_theory.specs.InARow.{ran_on};
 ghost use Rattle.kdf_director.specs.Fields.TurnTaken.{progress_of, step_told};
-ghost use Rattle.kdf_theory.specs.World.{hold_left, hold_of};
+ghost use Rattle.kdf_theory.specs.World.{hold_left};
 
 use crate::Progress;
 use kdf_journal::{CALL_LIMIT, Entry, Journal, MOVE_LIMIT};
@@ -114,7 +114,7 @@ fn write_hold(journal: &mut Journal, p: u8, need: Need)
     requires room { 1 ≤ journal.old.spare }
     requires few_calls { calls journal.old.entries < CALL_LIMIT }
     requires few_moves { moves journal.old.entries ≤ MOVE_LIMIT }
-    ensures entries { journal.new.entries ≡ added journal.old.entries (Holds p (hold_of need)) }
+    ensures entries { journal.new.entries ≡ added journal.old.entries (Holds p need) }
     ensures spare { journal.old.spare ≤ journal.new.spare + 1 }
 {
     match need {

@@ -5,7 +5,7 @@
 ghost use Rattle.std.specs.Prelude.{◌≡◌, [], ◌∷◌, true, false, Some, None, map, replicate};
 ghost use Rattle.kdf_transfer.specs.Examples.{all_a, all_b, having, placed};
 ghost use Rattle.kdf_transfer.specs.Devices.{new_progress};
-ghost use Rattle.kdf_processor.specs.declared.step.Need.TheVariants.{Device, Group};
+ghost use Rattle.kdf_journal.specs.declared.need.Need.TheVariants.{Device, Group};
 ghost use Rattle.kdf_director.specs.Examples.{backwards, behind, both, done, reading, ready, sevens, wound};
 ghost use Rattle.kdf_theory.specs.Flights.{moved_to, with_flight};
 ghost use Rattle.kdf_theory.specs.Seen.{pending_in_flight, seen, with_both, with_store};

@@ -10,8 +10,8 @@ use Rattle.kdf_transfer.specs.Devices.{Fixture, DeviceProgress}
 use Rattle.kdf_transfer.specs.declared.order.TransferOrder.{TransferOrder}
 use Rattle.kdf_transfer.proofs.Areas.{input_has}
 use Rattle.kdf_transfer.proofs.Stopping.{stopped-le}
-use Rattle.kdf_processor.specs.declared.step.Need.{Need}
-use Rattle.kdf_processor.specs.declared.step.Need.TheVariants.{Group}
+use Rattle.kdf_journal.specs.declared.need.Need.{Need}
+use Rattle.kdf_journal.specs.declared.need.Need.TheVariants.{Group}
 use Rattle.kdf_processor.specs.Needs.{group_of}
 use Rattle.kdf_processor.specs.View.{groups_of, order_groups}
 

@@ -3,7 +3,7 @@ use Rattle.std.proofs.Common.{◌≡◌, Bool, true, false, cond, List, [], ◌�
 use Rattle.std.specs.Prelude.{find}
 use Rattle.kdf_syllable.specs.declared.order.Order.{Order}
 use Rattle.kdf_processor.specs.declared.registers.Registers.{Registers}
-use Rattle.kdf_processor.specs.declared.step.Need.TheVariants.{Group}
+use Rattle.kdf_journal.specs.declared.need.Need.TheVariants.{Group}
 use Rattle.kdf_processor.specs.Needs.{effect_at, effect_needs, effect_or_liv, fetch_needs, order_at}
 use Rattle.kdf_processor.specs.Outcome.{done, held, held_or, outcome, try_effect}
 use Rattle.kdf_processor.specs.Plan.{try_decoded}

@@ -15,8 +15,8 @@ use Rattle.kdf_transfer.specs.AtOnce.{order_words, device_after}
 use Rattle.kdf_transfer.specs.Devices.{Fixture, new_progress, test_of}
 use Rattle.kdf_transfer.specs.declared.order.TransferOrder.{TransferOrder}
 use Rattle.kdf_processor.specs.declared.registers.Life.TheVariants.{Ended, Failed}
-use Rattle.kdf_processor.specs.declared.step.Need.{Need}
-use Rattle.kdf_processor.specs.declared.step.Need.TheVariants.{Group, Device}
+use Rattle.kdf_journal.specs.declared.need.Need.{Need}
+use Rattle.kdf_journal.specs.declared.need.Need.TheVariants.{Group, Device}
 use Rattle.kdf_processor.specs.declared.registers.Registers.{Registers}
 use Rattle.kdf_processor.specs.declared.spooled.Spooled.{Spooled}
 use Rattle.kdf_processor.specs.State.{State, Claims, StintState, word_at, device_at, fixture_at}

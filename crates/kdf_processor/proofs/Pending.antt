@@ -2,8 +2,8 @@
 use Rattle.std.proofs.Common.{◌≡◌, ℕ, Bool, true, false, cond, Option, Some, None, List, [], ◌∷◌, refl, sym, ap, ◌∙◌, map}
 use Rattle.std.specs.Prelude.{find, MatchOption, IsSomeAnd}
 use Rattle.std.specs.Option.{option_map}
-use Rattle.kdf_processor.specs.declared.step.Need.{Need}
-use Rattle.kdf_processor.specs.declared.step.Need.TheVariants.{Group, Device}
+use Rattle.kdf_journal.specs.declared.need.Need.{Need}
+use Rattle.kdf_journal.specs.declared.need.Need.TheVariants.{Group, Device}
 use Rattle.kdf_processor.specs.View.{View, first_pending}
 
 map_cond : (b : Bool) (g : ℕ) (o : Option ℕ) → cond b (Some (Group g)) (option_map Group o) ≡ option_map Group (cond b (Some g) o)

@@ -14,7 +14,7 @@ use Rattle.kdf_transfer.specs.declared.test.Test.TheVariants.{Flag, Start, Mark}
 use Rattle.kdf_transfer.specs.declared.wanted.Wanted.TheVariants.{Kinded, Labelled}
 use Rattle.kdf_processor.specs.declared.plan.Plan.TheVariants.{ClaimKind, ClaimLabel}
 use Rattle.kdf_processor.specs.declared.registers.Registers.{Registers}
-use Rattle.kdf_processor.specs.declared.step.Need.{Need}
+use Rattle.kdf_journal.specs.declared.need.Need.{Need}
 use Rattle.kdf_processor.specs.Ahead.{act_word, word_ahead, word_asked}
 use Rattle.kdf_processor.specs.Claims.{claim, free_for, kind_numbered, may_take, taken_device}
 use Rattle.kdf_processor.specs.Effect.{Change, Refused, Going, of_change, Effect, Failing, Ending, Changing, Fetching}

@@ -1,8 +1,8 @@
 -- What the fetch of an order answers.
 use Rattle.std.specs.Prelude.{◌≡◌, List, [], ◌∷◌, ℕ, ◌/◌, ◌%◌, Option, Some, None, if◌then◌else◌, nat_lt}
 use Rattle.kdf_syllable.specs.declared.order.Order.{Order}
-use Rattle.kdf_processor.specs.declared.step.Need.{Need}
-use Rattle.kdf_processor.specs.declared.step.Need.TheVariants.{Group}
+use Rattle.kdf_journal.specs.declared.need.Need.{Need}
+use Rattle.kdf_journal.specs.declared.need.Need.TheVariants.{Group}
 use Rattle.kdf_processor.specs.declared.fetch.Fetched.{Fetched}
 use Rattle.kdf_processor.specs.declared.fetch.Fetched.TheVariants as fetched
 use Rattle.kdf_processor.specs.declared.fetch.Syllable.{Syllable}

@@ -1,8 +1,8 @@
 -- States that agree in everything but what is hidden.
 use Rattle.std.specs.Prelude.{◌≡◌, ℕ, Bool, true, false, List, length}
 use Rattle.std.specs.List.{list_any}
-use Rattle.kdf_processor.specs.declared.step.Need.{Need}
-use Rattle.kdf_processor.specs.declared.step.Need.TheVariants.{Group, Device}
+use Rattle.kdf_journal.specs.declared.need.Need.{Need}
+use Rattle.kdf_journal.specs.declared.need.Need.TheVariants.{Group, Device}
 use Rattle.kdf_processor.specs.State.{State, word_at, device_at}
 use Rattle.kdf_processor.specs.Needs.{group_of}
 

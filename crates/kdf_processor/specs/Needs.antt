@@ -6,8 +6,8 @@ use Rattle.kdf_syllable.specs.declared.order.Order.{Order}
 use Rattle.kdf_syllable.specs.Packing.{syllable}
 use Rattle.kdf_syllable.specs.Spelling.{size_of_first}
 use Rattle.kdf_journal.specs.declared.failure.Failure.TheVariants.{Liv}
-use Rattle.kdf_processor.specs.declared.step.Need.{Need}
-use Rattle.kdf_processor.specs.declared.step.Need.TheVariants.{Group, Device, Pool}
+use Rattle.kdf_journal.specs.declared.need.Need.{Need}
+use Rattle.kdf_journal.specs.declared.need.Need.TheVariants.{Group, Device, Pool}
 use Rattle.kdf_processor.specs.declared.registers.Registers.{Registers}
 use Rattle.kdf_decode.specs.Decoding.{decoded}
 use Rattle.kdf_processor.specs.State.{Claims, State, word_at}

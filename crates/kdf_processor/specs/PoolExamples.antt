@@ -8,7 +8,7 @@ use Rattle.kdf_journal.specs.declared.kind.Kind.TheVariants.{Tp, Lp}
 use Rattle.kdf_transfer.specs.Devices.{DeviceProgress, new_progress}
 use Rattle.kdf_transfer.specs.Examples.{all_a, all_b, having}
 use Rattle.kdf_processor.specs.declared.registers.Life.{Life}
-use Rattle.kdf_processor.specs.declared.step.Need.{Need}
+use Rattle.kdf_journal.specs.declared.need.Need.{Need}
 use Rattle.kdf_processor.specs.declared.step.Step.TheVariants.{Held}
 use Rattle.kdf_processor.specs.Effect.{Nothing}
 use Rattle.kdf_processor.specs.Examples.{calling, claiming, equipped, obeyed_over}

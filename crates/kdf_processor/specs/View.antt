@@ -5,8 +5,8 @@ use Rattle.kdf_journal.specs.declared.kind.Kind.{Kind}
 use Rattle.kdf_transfer.specs.AtOnce.{has_area}
 use Rattle.kdf_transfer.specs.Devices.{test_of}
 use Rattle.kdf_transfer.specs.declared.order.TransferOrder.{TransferOrder}
-use Rattle.kdf_processor.specs.declared.step.Need.{Need}
-use Rattle.kdf_processor.specs.declared.step.Need.TheVariants.{Group, Device, Pool}
+use Rattle.kdf_journal.specs.declared.need.Need.{Need}
+use Rattle.kdf_journal.specs.declared.need.Need.TheVariants.{Group, Device, Pool}
 use Rattle.kdf_transfer.specs.declared.test.Test.{Test}
 use Rattle.kdf_processor.specs.State.{Claims, Stock, word_in, device_in}
 use Rattle.kdf_processor.specs.Effect.{Question}

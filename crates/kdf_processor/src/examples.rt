@@ -13,7 +13,7 @@ ghost use Rattle.std.specs.Prelude.{◌≡◌, ◌+◌, ◌-◌, ◌*◌, ◌^�
 ghost use Rattle.kdf_syllable.specs.declared.amount.Amount.TheVariants.{Fixed, Count};
 ghost use Rattle.kdf_syllable.specs.declared.order.Order.TheVariants as order;
 ghost use Rattle.kdf_journal.specs.declared.failure.Failure.TheVariants.{Liv, Nouv, Out, Reset};
-ghost use Rattle.kdf_processor.specs.declared.step.Need.TheVariants.{Group};
+ghost use Rattle.kdf_journal.specs.declared.need.Need.TheVariants.{Group};
 ghost use Rattle.kdf_processor.specs.Effect.{Going, Refused, Nothing, Writes};
 ghost use Rattle.kdf_processor.specs.Examples.{parts, linked, counted, single, leaves, moving, copy, makes, jump, taken, passed, word, obeyed, does, ends, fails};
 ghost use Rattle.kdf_processor.specs.Needs.{fetch_needs, order_at};

@@ -1,6 +1,6 @@
 //! Laws of the definitions, each the contract of a function that does nothing.
 ghost use Rattle.std.specs.Prelude.{◌≡◌, ℕ, ◌≤◌, ◌++◌, List, [], length, Bool, true, false, find};
-ghost use Rattle.kdf_processor.specs.declared.step.Need.{Need};
+ghost use Rattle.kdf_journal.specs.declared.need.Need.{Need};
 ghost use Rattle.kdf_processor.specs.Effect.{Question};
 ghost use Rattle.kdf_processor.specs.Frame.{Agrees, Leaves, HidesNone};
 ghost use Rattle.kdf_processor.specs.Lone.{lone};

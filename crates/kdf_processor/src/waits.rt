@@ -1,6 +1,6 @@
 //! What a plan waits for.
 ghost use Rattle.std.specs.Prelude.{◌≡◌, ◌∷◌, [], map};
-ghost use Rattle.kdf_processor.specs.declared.step.Need.TheVariants as need;
+ghost use Rattle.kdf_journal.specs.declared.need.Need.TheVariants as need;
 ghost use Rattle.kdf_processor.specs.declared.registers.Registers.{Registers};
 ghost use Rattle.kdf_transfer.specs.AtOnce.{IsArea};
 ghost use Rattle.kdf_processor.specs.Needs.{effect_needs};

@@ -1,10 +1,10 @@
 -- How many entries the journal of a schedule has.
 use Rattle.std.proofs.Common.{ℕ, ◌+◌, ◌*◌, ◌<◌, ◌≤◌, ◌^◌, Bool, true, false, cond, eqb, List, [], ◌∷◌, length, ap, arith, length-append}
 use Rattle.std.proofs.lemmas.List.{length-replicate}
+use Rattle.kdf_journal.specs.declared.need.Need.TheVariants.{Group, Device, Pool}
 use Rattle.kdf_journal.specs.declared.entry.Entry.{Entry}
 use Rattle.kdf_journal.specs.declared.entry.Entry.TheVariants.{Ran, Start, Answer, Take, Give, Fail, Ended, Lov, Busy, Wait, Idle}
 use Rattle.kdf_journal.specs.declared.entry.Entry.TheVariants as entry
-use Rattle.kdf_journal.specs.Counts.{ByGroup, ByDevice, ByPool}
 use Rattle.kdf_journal.specs.Joined.{joined, pushed}
 use Rattle.kdf_journal.specs.Steps.{Note, Quiet, Began, Answered, Took, Gave, Failed, Finished, JournalStep, Obeys, Holds, Waits, Moves, Ends, Sets, Swaps}
 use Rattle.kdf_journal.specs.Steps.{added}
@@ -44,9 +44,9 @@ noted_length J p Finished = pushed_length J (Ended p)
 
 added_length : (J : List Entry) (s : JournalStep) → length (added J s) ≤ length J + 2
 added_length J (Obeys p note) = omega (arith, noted_length (pushed J (Ran p 1)) p note, pushed_length J (Ran p 1))
-added_length J (Holds p (ByGroup group)) = omega (arith, pushed_length J (Lov p group))
-added_length J (Holds p (ByDevice d)) = omega (arith, pushed_length J (Busy p d))
-added_length J (Holds p (ByPool kind)) = omega (arith, pushed_length J (Wait p kind))
+added_length J (Holds p (Group group)) = omega (arith, pushed_length J (Lov p group))
+added_length J (Holds p (Device d)) = omega (arith, pushed_length J (Busy p d))
+added_length J (Holds p (Pool kind)) = omega (arith, pushed_length J (Wait p kind))
 added_length J Waits = omega (arith, pushed_length J (Idle 1))
 added_length J (Moves d n) = omega (arith, pushed_length J (entry.Move d n))
 added_length J (Ends d) = omega (arith, pushed_length J (entry.End d))

@@ -3,13 +3,12 @@ use Rattle.std.proofs.Common.{◌≡◌, ℕ, zero, suc, ◌+◌, ◌*◌, ◌<�
 use Rattle.std.proofs.Common.{refl, sym, ap, ◌∙◌, subst, arith}
 use Rattle.std.specs.Prelude.{find, replicate, unwrap_or}
 use Rattle.std.specs.List.{list_any, range_with_len}
-use Rattle.std.specs.Option.{option_map}
 use Rattle.std.proofs.lemmas.Bool.{eq-eqb, eqb-true}
 use Rattle.std.proofs.lemmas.List.Sums.{sum_by-cons}
 use Rattle.kdf_journal.specs.declared.kind.Kind.{Kind}
 use Rattle.kdf_journal.specs.declared.entry.Entry.{Entry}
 use Rattle.kdf_journal.specs.declared.entry.Entry.TheVariants.{Ran}
-use Rattle.kdf_journal.specs.Counts.{ByGroup, ByDevice, ByPool, calls, calls_in, last_hold, ran, ran_in}
+use Rattle.kdf_journal.specs.Counts.{calls, calls_in, last_hold, ran, ran_in}
 use Rattle.kdf_journal.specs.Counts as counts
 use Rattle.kdf_journal.specs.Printed.{IsEntry}
 use Rattle.kdf_journal.specs.Steps.{Note, Quiet, Began, Answered, Took, Gave, Failed, Finished, JournalStep, Obeys, Holds, Waits, Moves, Ends, Sets, Swaps}
@@ -27,7 +26,7 @@ use Rattle.kdf_course.proofs.OneJournal.{calls-after}
 use Rattle.kdf_course.proofs.Steps.{legal-journal_of}
 use Rattle.kdf_transfer.specs.ByNumber.{device_count}
 use Rattle.kdf_transfer.specs.Slots.{Slot}
-use Rattle.kdf_processor.specs.declared.step.Need.TheVariants.{Group, Device}
+use Rattle.kdf_journal.specs.declared.need.Need.TheVariants.{Group, Device, Pool}
 use Rattle.kdf_processor.specs.Effect.{IsBusy, IsOut, Time, FreeOf, OfService, Effect, Failing, Ending, Changing, Fetching, Keeping, Testing, Starting, Asking}
 use Rattle.kdf_processor.specs.Effect.{Claiming, Returning, Spooling}
 use Rattle.kdf_processor.specs.Needs.{needs, next_effect}
@@ -43,13 +42,12 @@ use Rattle.kdf_theory.specs.Next.{lone_dispatched}
 use Rattle.kdf_theory.specs.Served.{IsJournalFor, is_served, is_true_for}
 use Rattle.kdf_theory.specs.Slots.{AreSlots, slot_of, start, start_of}
 use Rattle.kdf_theory.specs.True.{one_if}
-use Rattle.kdf_theory.specs.World.{first_need, need_of}
+use Rattle.kdf_theory.specs.World.{first_need}
 use Rattle.kdf_yard.specs.Fields.Going.{IsNearHold}
 use Rattle.kdf_theory.proofs.Course.CountsBounded.{few-calls}
 use Rattle.kdf_theory.proofs.Course.DevicesHeld.{IsFixed, fixed}
 use Rattle.kdf_director.proofs.Course.HoldsInside.{legal-near, size_of}
 use Rattle.kdf_theory.proofs.Course.Worlds.{find_true, next_slot}
-use Rattle.kdf_theory.proofs.Course.WorldsJudged.{held_need}
 use Rattle.kdf_theory.proofs.Seen.TransfersChecked.{IsChecked, claim_small, next_checked}
 use Rattle.kdf_snapshot.proofs.SmallEntries.{AreSmall, IsSmallNote, IsSmallStep, added_small, clock_small, entries_fit, pending_small}
 
@@ -203,12 +201,12 @@ module _ (answers : ℕ → ℕ → Type 0) (are_words : (n a : ℕ) → n < 2 ^
     unfolding first_need
     device_small d is = pending_small d J was (find_true (is_pending_after slots J p) (needs (own slots J p) (mine_after J p)) (Device d) is)
 
-  group_small : (J : List Entry) (p g : ℕ) → IsLegal slots (added J (Holds p (ByGroup g))) → g < 2 ^ 16
+  group_small : (J : List Entry) (p g : ℕ) → IsLegal slots (added J (Holds p (Group g))) → g < 2 ^ 16
   group_small J p g legal =
-      let held : last_hold p (added J (Holds p (ByGroup g))) ≡ Some (ByGroup g) =
-      last_hold-added p J (Holds p (ByGroup g)) ∙ ap (λ b. cond b (Some (ByGroup g)) (last_hold p J)) (eq-eqb p p refl) in
-      let near : 32 * g < size_of slots p = subst (λ o. IsNearHold (size_of slots p) (option_map need_of o)) held
-      (legal-near slots (added J (Holds p (ByGroup g))) legal p) in
+      let held : last_hold p (added J (Holds p (Group g))) ≡ Some (Group g) =
+      last_hold-added p J (Holds p (Group g)) ∙ ap (λ b. cond b (Some (Group g)) (last_hold p J)) (eq-eqb p p refl) in
+      let near : 32 * g < size_of slots p = subst (λ o. IsNearHold (size_of slots p) o) held
+      (legal-near slots (added J (Holds p (Group g))) legal p) in
       omega (arith, small p)
 
   step_small : (J : List Entry) (s : JournalStep) → IsLegal slots (added J s) → AreSmall J → calls J + 1 < 2 ^ 32
@@ -216,13 +214,13 @@ module _ (answers : ℕ → ℕ → Type 0) (are_words : (n a : ℕ) → n < 2 ^
   step_small J (Obeys p note) legal was count met told fits =
       let one = few p (next_slot (lone_world slots J) slots J p met.0) in
       (omega arith, order_small J p was count note met.2 told)
-  step_small J (Holds p (ByGroup g)) legal was count met told fits =
+  step_small J (Holds p (Group g)) legal was count met told fits =
       let one = few p (next_slot (lone_world slots J) slots J p met.0) in
       (omega arith, group_small J p g legal)
-  step_small J (Holds p (ByDevice d)) legal was count met told fits =
+  step_small J (Holds p (Device d)) legal was count met told fits =
       let one = few p (next_slot (lone_world slots J) slots J p met.0) in
-      (omega arith, device_small J p was count d (held_need (first_need (lone_world slots J) p) (ByDevice d) met.1))
-  step_small J (Holds p (ByPool kind)) legal was count met told fits =
+      (omega arith, device_small J p was count d met.1)
+  step_small J (Holds p (Pool kind)) legal was count met told fits =
       let one = few p (next_slot (lone_world slots J) slots J p met.0) in
       (omega arith, tt)
   step_small J Waits legal was count met told fits = tt

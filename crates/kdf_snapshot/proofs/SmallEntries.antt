@@ -3,9 +3,11 @@ use Rattle.std.proofs.Common.{◌≡◌, ℕ, zero, suc, ◌+◌, ◌<◌, ◌^�
 use Rattle.std.specs.Prelude.{fold}
 use Rattle.std.proofs.lemmas.Bool.{eqb-true}
 use Rattle.std.proofs.lemmas.List.Sums.{sum_by-cons}
+use Rattle.kdf_journal.specs.declared.need.Need.{Need}
+use Rattle.kdf_journal.specs.declared.need.Need.TheVariants.{Group, Device, Pool}
 use Rattle.kdf_journal.specs.declared.entry.Entry.{Entry}
 use Rattle.kdf_journal.specs.declared.entry.Entry.TheVariants.{Ran, Start, Answer, Take, Give, Fail, Ended, Lov, Busy, Wait, Idle, Move, End, Clock, Swap}
-use Rattle.kdf_journal.specs.Counts.{Hold, ByGroup, ByDevice, ByPool, calls, calls_in, clock, clock_after, pending, pending_after}
+use Rattle.kdf_journal.specs.Counts.{calls, calls_in, clock, clock_after, pending, pending_after}
 use Rattle.kdf_journal.specs.Joined.{joined, pushed}
 use Rattle.kdf_journal.specs.Printed.{IsEntry}
 use Rattle.kdf_journal.specs.Steps.{Note, Quiet, Began, Answered, Took, Gave, Failed, Finished, JournalStep, Obeys, Holds, Waits, Moves, Ends, Sets, Swaps}
@@ -29,10 +31,10 @@ IsSmallNote (Took d) = d < 2 ^ 8
 IsSmallNote (Gave d) = d < 2 ^ 8
 IsSmallNote note = Unit {0}
 
-abbrev pub IsSmallHold : Hold → Type 0
-IsSmallHold (ByGroup group) = group < 2 ^ 16
-IsSmallHold (ByDevice d) = d < 2 ^ 8
-IsSmallHold (ByPool kind) = Unit {0}
+abbrev pub IsSmallHold : Need → Type 0
+IsSmallHold (Group group) = group < 2 ^ 16
+IsSmallHold (Device d) = d < 2 ^ 8
+IsSmallHold (Pool kind) = Unit {0}
 
 abbrev pub IsSmallStep : JournalStep → Type 0
 IsSmallStep (Obeys p note) = (p < 2 ^ 8) × IsSmallNote note
@@ -70,9 +72,9 @@ noted_small J p Finished was few small = pushed_small J (Ended p) was few
 
 pub added_small : (J : List Entry) (s : JournalStep) → AreSmall J → IsSmallStep s → AreSmall (added J s)
 added_small J (Obeys p note) was small = noted_small (pushed J (Ran p 1)) p note (pushed_small J (Ran p 1) was small.0) small.0 small.1
-added_small J (Holds p (ByGroup group)) was small = pushed_small J (Lov p group) was (small.0, small.1)
-added_small J (Holds p (ByDevice d)) was small = pushed_small J (Busy p d) was (small.0, small.1)
-added_small J (Holds p (ByPool kind)) was small = pushed_small J (Wait p kind) was small.0
+added_small J (Holds p (Group group)) was small = pushed_small J (Lov p group) was (small.0, small.1)
+added_small J (Holds p (Device d)) was small = pushed_small J (Busy p d) was (small.0, small.1)
+added_small J (Holds p (Pool kind)) was small = pushed_small J (Wait p kind) was small.0
 added_small J Waits was small = pushed_small J (Idle 1) was tt
 added_small J (Moves d n) was small = pushed_small J (Move d n) was (small.0, small.1)
 added_small J (Ends d) was small = pushed_small J (End d) was small

@@ -1,7 +1,7 @@
 -- The registers after an order that was obeyed.
 use Rattle.std.proofs.Common.{◌≡◌, ◌+◌, Option, Some, None, refl}
 use Rattle.kdf_processor.specs.declared.registers.Registers.{Registers}
-use Rattle.kdf_processor.specs.declared.step.Need.{Need}
+use Rattle.kdf_journal.specs.declared.need.Need.{Need}
 use Rattle.kdf_processor.specs.declared.step.Step.TheVariants as step
 use Rattle.kdf_processor.specs.Effect.{Effect, Failing, Ending, Changing, Fetching, Keeping, Testing, Starting, Asking, Claiming, Returning, Spooling}
 use Rattle.kdf_processor.specs.Needs.{effect_at, needs_at}

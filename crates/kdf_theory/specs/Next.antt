@@ -1,12 +1,11 @@
 -- Which program is next, as kdf_course has it over any programs. J is the journal so far, oldest entry first.
 use Rattle.std.specs.Prelude.{ℕ, List, Bool, Option, is_some}
-use Rattle.std.specs.Option.{option_map}
 use Rattle.kdf_journal.specs.declared.entry.Entry.{Entry}
 use Rattle.kdf_transfer.specs.Slots.{Slot}
 use Rattle.kdf_course.specs.World as course
 use Rattle.kdf_theory.specs.Slots.{slot_of}
 use Rattle.kdf_theory.specs.ByJournal.{lone_world}
-use Rattle.kdf_theory.specs.World.{World, first_need, hold_of, need_of}
+use Rattle.kdf_theory.specs.World.{World, first_need}
 
 -- the programs that there are
 abbrev pub there_in : List Slot → ℕ → Bool
@@ -17,8 +16,8 @@ abbrev pub dispatched : List Slot → World → course.Dispatch
 dispatched slots w =
     record {
       there = there_in slots;
-      pending = λ p by. w.pending p (need_of by);
-      held = λ p. option_map hold_of (first_need w p);
+      pending = λ p by. w.pending p by;
+      held = λ p. first_need w p;
     }
 
 -- what dispatching reads of the world of lone runs

@@ -3,8 +3,8 @@ use Rattle.std.specs.Prelude.{ℕ, ◌==◌, ◌||◌, List, length, map, Bool, 
 use Rattle.std.specs.List.{list_any, range_with_len}
 use Rattle.std.proofs.Common.{zero, suc}
 use Rattle.kdf_transfer.specs.Devices.{DeviceProgress}
-use Rattle.kdf_processor.specs.declared.step.Need.{Need}
-use Rattle.kdf_processor.specs.declared.step.Need.TheVariants.{Group, Device, Pool}
+use Rattle.kdf_journal.specs.declared.need.Need.{Need}
+use Rattle.kdf_journal.specs.declared.need.Need.TheVariants.{Group, Device, Pool}
 use Rattle.kdf_processor.specs.Effect.{Question, Act, Starts, Effect}
 use Rattle.kdf_processor.specs.Needs.{next_effect}
 use Rattle.kdf_processor.specs.Outcome.{Outcome}

@@ -1,9 +1,7 @@
 -- What a journal is judged by.
 use Rattle.std.specs.Prelude.{ℕ, List, Bool, Option, find, Some, None}
 use Rattle.kdf_journal.specs.declared.kind.Kind.{Kind}
-use Rattle.kdf_journal.specs.Counts.{Hold, ByGroup, ByDevice, ByPool}
-use Rattle.kdf_processor.specs.declared.step.Need.{Need}
-use Rattle.kdf_processor.specs.declared.step.Need.TheVariants.{Group, Device, Pool}
+use Rattle.kdf_journal.specs.declared.need.Need.{Need}
 use Rattle.kdf_processor.specs.Needs.{needs}
 use Rattle.kdf_processor.specs.State.{State}
 use Rattle.kdf_processor.specs.declared.step.Step.{Step}
@@ -20,18 +18,6 @@ pub record World : Type 0 where
 -- what holds program p up: the first need of its next order that is pending
 unfoldable pub first_need : World → ℕ → Option Need
 first_need w p = find (w.pending p) (needs (w.state p) (w.mine p))
-
--- a need, as a journal tells it
-abbrev pub hold_of : Need → Hold
-hold_of (Group g) = ByGroup g
-hold_of (Device d) = ByDevice d
-hold_of (Pool kind) = ByPool kind
-
--- the need that a journal tells so
-abbrev pub need_of : Hold → Need
-need_of (ByGroup g) = Group g
-need_of (ByDevice d) = Device d
-need_of (ByPool kind) = Pool kind
 
 -- what holds a program whose turn ended so
 abbrev pub hold_left : Step → Option Need

@@ -11,7 +11,7 @@ use Rattle.kdf_journal.proofs.Bounds.{ran-le-calls}
 use Rattle.kdf_course.specs.World as course
 use Rattle.kdf_transfer.specs.Slots.{Slot}
 use Rattle.kdf_processor.specs.declared.registers.Registers.{Registers}
-use Rattle.kdf_processor.specs.declared.step.Need.{Need}
+use Rattle.kdf_journal.specs.declared.need.Need.{Need}
 use Rattle.kdf_processor.specs.Lone.{is_live}
 use Rattle.kdf_processor.specs.State.{State}
 use Rattle.kdf_director.specs.declared.machine.Progress.{Progress}
@@ -24,7 +24,6 @@ use Rattle.kdf_theory.specs.MachineView.{MachineView, ShowsSeen, state_at, state
 use Rattle.kdf_theory.specs.Slots.{slot_of, start, start_of}
 use Rattle.kdf_theory.specs.ByJournal.{own, seen_of}
 use Rattle.kdf_theory.specs.True.{truth}
-use Rattle.kdf_theory.specs.World.{hold_of}
 use Rattle.kdf_director.proofs.Calls.OneCall.{calls-took, clock-took}
 use Rattle.kdf_theory.proofs.Course.LegalFacts.{legal_alive}
 use Rattle.kdf_director.proofs.Calls.FoundLive.{found_is}
@@ -160,7 +159,7 @@ module _ (answers : ℕ → ℕ → Type 0) (m w : MachineView) (r : Progress) (
   called_seen p is same few time look look_is = subst (λ (x : Look). Sighted m w x) (sym look_is) (seen_by took.heard p (obeyed p is) same few time)
 
   held_by : (heard : ℕ) (p : ℕ) (need : Need) → HeldUp m w p need → Unsighted m w
-  held_by heard p need did = (Holds p (hold_of need), record { live = found_is heard m w (progress.Held p need) did; journal = did.journal }, λ slots J. refl)
+  held_by heard p need did = (Holds p need, record { live = found_is heard m w (progress.Held p need) did; journal = did.journal }, λ slots J. refl)
 
   idle_by : Waited m w → Unsighted m w
   idle_by did = (Waits, record { live = did.live; journal = did.journal }, λ slots J. refl)

@@ -22,7 +22,6 @@ use Rattle.kdf_director.specs.Runs.{HasMadeOn, HasMadeSome}
 use Rattle.kdf_theory.specs.Served.{IsAnswered, IsTrueFor}
 use Rattle.kdf_theory.specs.MachineView.{MachineView, state_at, world_of}
 use Rattle.kdf_theory.specs.True.{truth}
-use Rattle.kdf_theory.specs.World.{hold_of}
 use Rattle.kdf_director.proofs.Calls.OneCall.{calls-took, clock-took}
 use Rattle.kdf_theory.proofs.Course.OneJournal.{true_for_answered}
 use Rattle.kdf_director.proofs.Calls.FoundLive.{found_is}
@@ -40,7 +39,7 @@ step_of heard m n (progress.Ran p) took live = record {
   is =
       took.journal;
 }
-step_of heard m n (progress.Held p need) took live = record { step = Holds p (hold_of need); order = refl; is = took.journal }
+step_of heard m n (progress.Held p need) took live = record { step = Holds p need; order = refl; is = took.journal }
 step_of heard m n progress.Idle took live = record { step = Waits; order = refl; is = took.journal }
 step_of heard m n progress.AllEnded took live = absurd (true≢false (sym live))
 

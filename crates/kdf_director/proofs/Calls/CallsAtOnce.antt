@@ -13,7 +13,7 @@ use Rattle.kdf_journal.specs.Recorded.{Recorded}
 use Rattle.kdf_journal.specs.Steps.{added}
 use Rattle.kdf_processor.specs.declared.registers.Life.{Life}
 use Rattle.kdf_processor.specs.declared.registers.Life.TheVariants as life
-use Rattle.kdf_processor.specs.declared.step.Need.{Need}
+use Rattle.kdf_journal.specs.declared.need.Need.{Need}
 use Rattle.kdf_processor.specs.declared.step.Step.{Step}
 use Rattle.kdf_processor.specs.declared.step.Step.TheVariants as step
 use Rattle.kdf_processor.specs.Lone.{is_live}

@@ -15,28 +15,27 @@ use Rattle.kdf_theory.specs.Legal.{note_of, IsLegal}
 use Rattle.kdf_theory.specs.Next.{lone_dispatched, any_live}
 use Rattle.kdf_theory.specs.MachineView.{MachineView, state_at, world_of}
 use Rattle.kdf_theory.specs.True.{truth}
-use Rattle.kdf_theory.specs.World.{hold_of}
 use Rattle.kdf_theory.specs.Served.{is_true_for, IsTrueFor}
 
 pub calls-took : (heard : ℕ) (m n : MachineView) (r : Progress) → Advance heard m n r → calls n.journal ≤ calls m.journal + 1
 calls-took heard m n progress.AllEnded took = omega (arith, ap (λ (x : MachineView). calls x.journal) took.1)
 calls-took heard m n (progress.Ran p) took =
     omega (arith, ap calls took.journal, calls-added m.journal (Obeys p (note_of (state_at m p) (truth (world_of m) m.journal p heard))))
-calls-took heard m n (progress.Held p need) took = omega (arith, ap calls took.journal, calls-added m.journal (Holds p (hold_of need)))
+calls-took heard m n (progress.Held p need) took = omega (arith, ap calls took.journal, calls-added m.journal (Holds p need))
 calls-took heard m n progress.Idle took = omega (arith, ap calls took.journal, calls-added m.journal Waits)
 
 pub moves-took : (heard : ℕ) (m n : MachineView) (r : Progress) → Advance heard m n r → moves n.journal ≡ moves m.journal
 moves-took heard m n progress.AllEnded took = ap (λ (x : MachineView). moves x.journal) took.1
 moves-took heard m n (progress.Ran p) took =
     omega (arith, ap moves took.journal, moves-added m.journal (Obeys p (note_of (state_at m p) (truth (world_of m) m.journal p heard))))
-moves-took heard m n (progress.Held p need) took = omega (arith, ap moves took.journal, moves-added m.journal (Holds p (hold_of need)))
+moves-took heard m n (progress.Held p need) took = omega (arith, ap moves took.journal, moves-added m.journal (Holds p need))
 moves-took heard m n progress.Idle took = omega (arith, ap moves took.journal, moves-added m.journal Waits)
 
 pub clock-took : (heard : ℕ) (m n : MachineView) (r : Progress) → Advance heard m n r → clock n.journal ≡ clock m.journal
 clock-took heard m n progress.AllEnded took = ap (λ (x : MachineView). clock x.journal) took.1
 clock-took heard m n (progress.Ran p) took = ap clock took.journal
     ∙ clock-added m.journal (Obeys p (note_of (state_at m p) (truth (world_of m) m.journal p heard)))
-clock-took heard m n (progress.Held p need) took = ap clock took.journal ∙ clock-added m.journal (Holds p (hold_of need))
+clock-took heard m n (progress.Held p need) took = ap clock took.journal ∙ clock-added m.journal (Holds p need)
 clock-took heard m n progress.Idle took = ap clock took.journal ∙ clock-added m.journal Waits
 
 -- an event that is entered answers its call

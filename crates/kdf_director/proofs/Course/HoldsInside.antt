@@ -1,13 +1,13 @@
 -- A group that held a program lies in its store.
 use Rattle.std.specs.Prelude.{find}
-use Rattle.std.specs.Option.{option_map}
 use Rattle.std.proofs.Common.{◌≡◌, ◌≢◌, ℕ, Bool, true, false, eqb, List, [], ◌∷◌, Option, Some, None, cond, sym, ap, ◌∙◌, subst, ⊎_elim}
 use Rattle.std.proofs.lemmas.Bool.{cases_Bool, cases_eq, eq-eqb, ne_eqb}
+use Rattle.kdf_journal.specs.declared.need.Need.TheVariants.{Group, Device, Pool}
 use Rattle.kdf_journal.specs.declared.entry.Entry.{Entry}
-use Rattle.kdf_journal.specs.Counts.{Hold, ByGroup, ByDevice, answers, last_hold, ran, ByPool}
+use Rattle.kdf_journal.specs.Counts.{answers, last_hold, ran}
 use Rattle.kdf_journal.specs.Steps.{JournalStep, Obeys, Holds, Waits, Moves, Ends, Sets, Swaps, journal_of, steps}
 use Rattle.kdf_journal.proofs.Added.{last_hold-added}
-use Rattle.kdf_processor.specs.declared.step.Need.{Need}
+use Rattle.kdf_journal.specs.declared.need.Need.{Need}
 use Rattle.kdf_processor.specs.Needs.{needs}
 use Rattle.kdf_transfer.specs.Slots.{Slot}
 use Rattle.kdf_processor.proofs.RowFacts.{size_lone}
@@ -15,8 +15,7 @@ use Rattle.kdf_yard.specs.Fields.Going.{IsNearHold}
 use Rattle.kdf_theory.specs.Legal.{EachMeets, IsLegal}
 use Rattle.kdf_theory.specs.Slots.{start}
 use Rattle.kdf_theory.specs.ByJournal.{is_pending_after, lone_world, mine_after, own}
-use Rattle.kdf_theory.specs.World.{first_need, need_of}
-use Rattle.kdf_theory.proofs.Course.WorldsJudged.{held_need}
+use Rattle.kdf_theory.specs.World.{first_need}
 use Rattle.kdf_theory.proofs.Seen.NeedsInside.{AreNear, IsNear, needs_near}
 
 -- the size of a program's store
@@ -41,35 +40,31 @@ found_near size f (x ∷ ns) n near is =
     some_same : Some x ≡ Some n → x ≡ n
     some_same e = cc
 
-near_need : (size : ℕ) (by : Hold) → IsNear size (need_of by) → IsNearHold size (Some (need_of by))
-near_need size (ByGroup g) near = near
-near_need size (ByDevice d) near = tt
-near_need size (ByPool kind) near = tt
+near_need : (size : ℕ) (by : Need) → IsNear size by → IsNearHold size (Some by)
+near_need size (Group g) near = near
+near_need size (Device d) near = tt
+near_need size (Pool kind) near = tt
 
 -- the need that holds a program up
-need_near : (slots : List Slot) (J : List Entry) (p : ℕ) (by : Hold) → first_need (lone_world slots J) p ≡ Some (need_of by)
-    → IsNearHold (size_of slots p) (Some (need_of by))
+need_near : (slots : List Slot) (J : List Entry) (p : ℕ) (by : Need) → first_need (lone_world slots J) p ≡ Some by
+    → IsNearHold (size_of slots p) (Some by)
 unfolding first_need
 need_near slots J p by is =
     near_need (size_of slots p) by
-    (subst (λ n. IsNear n (need_of by)) (own_size slots J p)
-    (found_near (own slots J p).stock.claims.size (is_pending_after slots J p) (needs (own slots J p) (mine_after J p)) (need_of by)
+    (subst (λ n. IsNear n by) (own_size slots J p)
+    (found_near (own slots J p).stock.claims.size (is_pending_after slots J p) (needs (own slots J p) (mine_after J p)) by
     (needs_near (own slots J p) (mine_after J p)) is))
 
--- what held program p, by a journal
-abbrev held_by : ℕ → List Entry → Option Need
-held_by p J = option_map need_of (last_hold p J)
-
 -- a step of program p leaves this hold
-near_left : (size p q : ℕ) (new old : Option Hold) → (p ≡ q → IsNearHold size (option_map need_of new)) → IsNearHold size (option_map need_of old)
-    → IsNearHold size (option_map need_of (cond (eqb p q) new old))
+near_left : (size p q : ℕ) (new old : Option Need) → (p ≡ q → IsNearHold size new) → IsNearHold size old
+    → IsNearHold size (cond (eqb p q) new old)
 near_left size p q new old its others =
     ⊎_elim
-    (λ (same : p ≡ q). subst (λ b. IsNearHold size (option_map need_of (cond b new old))) (sym (eq-eqb p q same)) (its same))
-    (λ (ne : p ≢ q). subst (λ b. IsNearHold size (option_map need_of (cond b new old))) (sym (ne_eqb p q ne)) others)
+    (λ (same : p ≡ q). subst (λ b. IsNearHold size (cond b new old)) (sym (eq-eqb p q same)) (its same))
+    (λ (ne : p ≢ q). subst (λ b. IsNearHold size (cond b new old)) (sym (ne_eqb p q ne)) others)
     (cases_eq p q)
 
-near_more : (slots : List Slot) (P : List JournalStep) → EachMeets slots P → (q : ℕ) → IsNearHold (size_of slots q) (held_by q (journal_of P))
+near_more : (slots : List Slot) (P : List JournalStep) → EachMeets slots P → (q : ℕ) → IsNearHold (size_of slots q) (last_hold q (journal_of P))
 near_more slots [] m q = tt
 near_more slots (Obeys p note ∷ P) m q =
     rw (last_hold-added q (journal_of P) (Obeys p note))
@@ -77,8 +72,8 @@ near_more slots (Obeys p note ∷ P) m q =
 near_more slots (Holds p by ∷ P) m q =
     rw (last_hold-added q (journal_of P) (Holds p by))
     (near_left (size_of slots q) p q (Some by) (last_hold q (journal_of P))
-    (λ same. subst (λ k. IsNearHold (size_of slots k) (Some (need_of by))) same
-    (need_near slots (journal_of P) p by (held_need (first_need (lone_world slots (journal_of P)) p) by m.1.1)))
+    (λ same. subst (λ k. IsNearHold (size_of slots k) (Some by)) same
+    (need_near slots (journal_of P) p by m.1.1))
     (near_more slots P m.0 q))
 near_more slots (Waits ∷ P) m q = rw (last_hold-added q (journal_of P) Waits) (near_more slots P m.0 q)
 near_more slots (Moves d n ∷ P) m q = rw (last_hold-added q (journal_of P) (Moves d n)) (near_more slots P m.0 q)
@@ -87,5 +82,5 @@ near_more slots (Sets t ∷ P) m q = rw (last_hold-added q (journal_of P) (Sets 
 near_more slots (Swaps p r ∷ P) m q = rw (last_hold-added q (journal_of P) (Swaps p r)) (near_more slots P m.0 q)
 
 -- so it is by a legal journal
-pub legal-near : (slots : List Slot) (J : List Entry) → IsLegal slots J → (q : ℕ) → IsNearHold (size_of slots q) (option_map need_of (last_hold q J))
-legal-near slots J l q = subst (λ K. IsNearHold (size_of slots q) (held_by q K)) l.in_form (near_more slots (steps J) l.each q)
+pub legal-near : (slots : List Slot) (J : List Entry) → IsLegal slots J → (q : ℕ) → IsNearHold (size_of slots q) (last_hold q J)
+legal-near slots J l q = subst (λ K. IsNearHold (size_of slots q) (last_hold q K)) l.in_form (near_more slots (steps J) l.each q)

@@ -1,5 +1,4 @@
 -- A machine in which an event is entered stays as a machine is.
-use Rattle.std.specs.Option.{option_map}
 use Rattle.std.proofs.Common.{◌≡◌, ℕ, ◌+◌, ◌-◌, ◌<◌, ◌≤◌, List, length, map, Option, refl, sym, ap, ◌∙◌, subst, arith}
 use Rattle.std.proofs.Math.Path.{fun_ext}
 use Rattle.std.proofs.lemmas.List.{ext_get_or, get_or-map, length-map}
@@ -12,7 +11,7 @@ use Rattle.kdf_journal.specs.Steps.{JournalStep, Moves, Ends, Sets, Swaps, added
 use Rattle.kdf_journal.proofs.Added.{calls_by, calls-added, hold_by, holder-quiet, last_hold-added, moves_by, moves-added}
 use Rattle.kdf_transfer.specs.Slots.{Slot}
 use Rattle.kdf_processor.specs.State.{State}
-use Rattle.kdf_processor.specs.declared.step.Need.{Need}
+use Rattle.kdf_journal.specs.declared.need.Need.{Need}
 use Rattle.kdf_director.specs.Fields.Agrees.{Agrees, IsReady}
 use Rattle.kdf_yard.specs.Fields.Running.{AreLent, no_seat, own_state, IsRunning}
 use Rattle.kdf_director.specs.Fields.Following.{AreFollowing, asked_at}
@@ -25,7 +24,6 @@ use Rattle.kdf_theory.specs.MachineView.{entered, states_seen}
 use Rattle.kdf_director.specs.Fields.Viewed.{states_in, shown_of}
 use Rattle.kdf_yard.specs.Fields.Standing.{Standing}
 use Rattle.kdf_theory.specs.ByJournal.{lone_world, seen_of}
-use Rattle.kdf_theory.specs.World.{need_of}
 use Rattle.kdf_yard.proofs.Turns.FlightsMove.{ended_running, flown_running}
 use Rattle.kdf_director.proofs.Linking.EventsFollowed.{ended_follows, flown_follows, exchanged_follows, set_follows}
 use Rattle.kdf_theory.proofs.Course.WorldsJudged.{legal_added, true_added}
@@ -108,17 +106,17 @@ module _ (y : Standing) (J : Recorded) (room : ℕ) (ready : IsReady y J room) w
       (quiet : (p : ℕ) → hold_by p (last_hold p J.entries) st ≡ last_hold p J.entries) (journal : K.entries ≡ added J.entries st) (words : moves_by st ≤ 4096)
       (agrees : Agrees y.slots y.reaches y.seats t (added J.entries st)) where
     -- the holds stay where a step names no program
-    holds_more : y.holds ≡ map (λ (x : Seat). option_map need_of (last_hold x.p (added J.entries st))) y.seats
+    holds_more : y.holds ≡ map (λ (x : Seat). last_hold x.p (added J.entries st)) y.seats
     holds_more =
         ready.holds ∙ ap (λ (f : Seat → Option Need). map f y.seats)
-        (fun_ext (λ (x : Seat). ap (option_map need_of) (sym (last_hold-added x.p J.entries st ∙ quiet x.p))))
+        (fun_ext (λ (x : Seat). sym (last_hold-added x.p J.entries st ∙ quiet x.p)))
 
     pub ready_more : IsReady z K (room - 1)
     ready_more =
         subst (λ (x : Standing). IsReady x K (room - 1)) (sym is)
         (record {
           agrees = subst (λ E. Agrees y.slots y.reaches y.seats t E) (sym journal) agrees;
-          holds = subst (λ (E : List Entry). y.holds ≡ map (λ (x : Seat). option_map need_of (last_hold x.p E)) y.seats) (sym journal) holds_more;
+          holds = subst (λ (E : List Entry). y.holds ≡ map (λ (x : Seat). last_hold x.p E) y.seats) (sym journal) holds_more;
           fits = (let f = ready.fits in omega arith);
           few_events = (let f = ready.few_events in omega arith);
           few_words = omega (arith, ready.few_words, ap moves journal, moves-added J.entries st);

@@ -3,8 +3,9 @@ use Rattle.std.proofs.Common.{◌≡◌, ◌≢◌, ℕ, ◌<◌, List, [], ◌+
 use Rattle.std.proofs.Math.Path.{fun_ext}
 use Rattle.std.proofs.lemmas.Bool.{cases_eq, eq-eqb, ne_eqb}
 use Rattle.std.proofs.lemmas.List.{append-nil, get_or-set_same, get_or-set_other}
+use Rattle.kdf_journal.specs.declared.need.Need.{Need}
 use Rattle.kdf_journal.specs.declared.entry.Entry.{Entry}
-use Rattle.kdf_journal.specs.Counts.{Hold, answers, pending}
+use Rattle.kdf_journal.specs.Counts.{answers, pending}
 use Rattle.kdf_journal.specs.Steps.{JournalStep, Holds, Waits, Moves, Ends, Sets, Swaps, added}
 use Rattle.kdf_journal.proofs.Added.{answers_by, answers-added, pending_by, pending-added, ran_by, moved_by}
 use Rattle.kdf_journal.specs.Counts.{moved_if}
@@ -123,13 +124,13 @@ module _ (slots : List Slot) (J : List Entry) (reaches : List Reach) (seats : Li
   quiet_seen st none silent same words p =
       ap₂ seen (fun_ext (flights-quiet slots J st p (asked p) same words (course p))) (own-same slots J st p (none p) (silent p))
 
-  pub held_seen : (p : ℕ) (by : Hold) (k : ℕ) → seen_of slots (added J (Holds p by)) k ≡ seen_of slots J k
+  pub held_seen : (p : ℕ) (by : Need) (k : ℕ) → seen_of slots (added J (Holds p by)) k ≡ seen_of slots J k
   held_seen p by = quiet_seen (Holds p by) (λ _. refl) (λ _. refl) (λ d. refl) (λ d. refl)
 
   pub waited_seen : (k : ℕ) → seen_of slots (added J Waits) k ≡ seen_of slots J k
   waited_seen = quiet_seen Waits (λ _. refl) (λ _. refl) (λ d. refl) (λ d. refl)
 
-  pub held_follows : (p : ℕ) (by : Hold) → AreFollowing slots (added J (Holds p by)) reaches seats s
+  pub held_follows : (p : ℕ) (by : Need) → AreFollowing slots (added J (Holds p by)) reaches seats s
   held_follows p by = quiet_follows (Holds p by) (λ _. refl) (λ _. refl) (λ d. refl) (λ d. refl)
 
   pub waited_follows : AreFollowing slots (added J Waits) reaches seats s

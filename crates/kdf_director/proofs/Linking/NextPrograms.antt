@@ -1,18 +1,17 @@
 -- The program that goes on by the fields of a machine is the one that is next by the journal.
 use Rattle.std.specs.Prelude.{find}
 use Rattle.std.specs.List.{list_any}
-use Rattle.std.specs.Option.{option_map}
 use Rattle.std.proofs.Common.{◌≡◌, ◌≢◌, ℕ, zero, suc, ◌<◌, ◌≤◌, Bool, true, false, eqb, ◌&&◌, not, List, [], ◌∷◌, length, get_or, map, Option, Some, None}
 use Rattle.std.proofs.Common.{is_some, cond, refl, sym, ap, ap₂, ◌∙◌, subst, ⊎_elim, arith}
 use Rattle.std.proofs.lemmas.Bool.{and_parts, cases_Bool, cases_eq, eq-eqb, eqb-true, false≢true, ne_eqb}
 use Rattle.std.proofs.lemmas.List.{get_or-map, length-map}
 use Rattle.kdf_journal.specs.declared.entry.Entry.{Entry}
 use Rattle.kdf_journal.specs.declared.journal.TheConstants.{CALL_LIMIT}
-use Rattle.kdf_journal.specs.Counts.{Hold, ByGroup, ByDevice, last_hold, over, priorities, ByPool}
+use Rattle.kdf_journal.specs.Counts.{last_hold, over, priorities}
 use Rattle.kdf_journal.proofs.Bounds.{ran-le-calls}
 use Rattle.kdf_processor.specs.Lone.{is_live}
 use Rattle.kdf_processor.specs.declared.registers.Registers.{Registers}
-use Rattle.kdf_processor.specs.declared.step.Need.{Need}
+use Rattle.kdf_journal.specs.declared.need.Need.{Need}
 use Rattle.kdf_transfer.specs.Slots.{Slot}
 use Rattle.kdf_processor.specs.State.{State}
 use Rattle.kdf_director.specs.Fields.Agrees.{Agrees}
@@ -26,9 +25,9 @@ use Rattle.kdf_places.specs.Shared.{Shared}
 use Rattle.kdf_yard.specs.Fields.Running.{no_seat, own_state, reach_at, seat_at}
 use Rattle.kdf_theory.specs.Slots.{no_slot, slot_of}
 use Rattle.kdf_theory.specs.ByJournal.{own, world_after}
-use Rattle.kdf_theory.specs.World.{World, need_of}
+use Rattle.kdf_theory.specs.World.{World}
 use Rattle.kdf_yard.proofs.Physical.FirstFound.{any_fails, any_is, any_none, any_there, found_first, none_found}
-use Rattle.kdf_processor.specs.declared.step.Need.TheVariants.{Pool}
+use Rattle.kdf_journal.specs.declared.need.Need.TheVariants.{Group, Device, Pool}
 use Rattle.kdf_director.proofs.Linking.JudgedAlike.{group_same, pending_same}
 use Rattle.kdf_theory.proofs.Course.LegalFacts.{legal_alive}
 use Rattle.kdf_director.proofs.Course.HoldsInside.{legal-near, own_size, size_of}
@@ -156,17 +155,17 @@ module _ (slots : List Slot) (reaches : List Reach) (seats : List Seat) (s : Sha
       let few = a.few_calls in
       omega (arith, ap (λ (r : Registers). r.ran) (registers_are i lt), ran-le-calls (p i) J)
 
-  module _ (holds : List (Option Need)) (have : holds ≡ map (λ (x : Seat). option_map need_of (last_hold x.p J)) seats) where
-    hold_is : (i : ℕ) → i < length seats → hold_at holds i ≡ option_map need_of (last_hold (p i) J)
-    hold_is i lt = ap (λ (hs : List (Option Need)). hold_at hs i) have ∙ get_or-map (λ (x : Seat). option_map need_of (last_hold x.p J)) seats i no_seat None lt
+  module _ (holds : List (Option Need)) (have : holds ≡ map (λ (x : Seat). last_hold x.p J) seats) where
+    hold_is : (i : ℕ) → i < length seats → hold_at holds i ≡ last_hold (p i) J
+    hold_is i lt = ap (λ (hs : List (Option Need)). hold_at hs i) have ∙ get_or-map (λ (x : Seat). last_hold x.p J) seats i no_seat None lt
 
-    near_at : (i : ℕ) → i < length seats → IsNearHold (reach_at reaches i).size (option_map need_of (last_hold (p i) J))
-    near_at i lt = subst (λ n. IsNearHold n (option_map need_of (last_hold (p i) J))) (sym (size_at i lt)) (legal-near slots J a.legal (p i))
+    near_at : (i : ℕ) → i < length seats → IsNearHold (reach_at reaches i).size (last_hold (p i) J)
+    near_at i lt = subst (λ n. IsNearHold n (last_hold (p i) J)) (sym (size_at i lt)) (legal-near slots J a.legal (p i))
 
     -- a group that held it is one of its store
     pub near_holds : AreNearHolds reaches holds
     near_holds i lt =
-        let within : i < length seats = omega (arith, ap length have, length-map seats (λ (x : Seat). option_map need_of (last_hold x.p J))) in
+        let within : i < length seats = omega (arith, ap length have, length-map seats (λ (x : Seat). last_hold x.p J)) in
         subst (IsNearHold (reach_at reaches i).size) (sym (hold_is i within)) (near_at i within)
 
     module _ (states : ℕ → State) where
@@ -174,12 +173,12 @@ module _ (slots : List Slot) (reaches : List Reach) (seats : List Seat) (s : Sha
       w = world_after slots J states
 
       -- what held it is pending by its fields where it is by the journal
-      stopped_by : (i : ℕ) → i < length seats → (o : Option Hold) → IsNearHold (reach_at reaches i).size (option_map need_of o)
-          → is_stopped (reach_at reaches i) (is_lent_by seats) s (option_map need_of o) ≡ stands (dispatched slots w) (p i) o
+      stopped_by : (i : ℕ) → i < length seats → (o : Option Need) → IsNearHold (reach_at reaches i).size o
+          → is_stopped (reach_at reaches i) (is_lent_by seats) s o ≡ stands (dispatched slots w) (p i) o
       stopped_by i lt None near = refl
-      stopped_by i lt (Some (ByGroup g)) near = group_same slots J reaches seats s a.running a.following i lt (legal-course slots J a.are a.legal (p i)) g near
-      stopped_by i lt (Some (ByDevice d)) near = a.following.busy d
-      stopped_by i lt (Some (ByPool kind)) near = pending_same slots J reaches seats s a.running a.following i lt (legal-course slots J a.are a.legal (p i))
+      stopped_by i lt (Some (Group g)) near = group_same slots J reaches seats s a.running a.following i lt (legal-course slots J a.are a.legal (p i)) g near
+      stopped_by i lt (Some (Device d)) near = a.following.busy d
+      stopped_by i lt (Some (Pool kind)) near = pending_same slots J reaches seats s a.running a.following i lt (legal-course slots J a.are a.legal (p i))
           a.lent (moment 0 0) (Pool kind) tt
 
       goes_same : (i : ℕ) → i < length seats → goes_at reaches seats holds s i ≡ can_go (dispatched slots w) J (p i)

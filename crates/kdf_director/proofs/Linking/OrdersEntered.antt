@@ -36,7 +36,6 @@ use Rattle.kdf_theory.specs.Slots.{slot_of, start_of}
 use Rattle.kdf_theory.specs.ByJournal.{flights_of, is_pending_after, lone_world, mine_after, own, seen_of, seen_world}
 use Rattle.kdf_theory.specs.True.{truth}
 use Rattle.kdf_yard.specs.Fields.Turned.{word_over, HasTurned}
-use Rattle.std.specs.Option.{option_map}
 use Rattle.kdf_theory.specs.World as world
 use Rattle.kdf_theory.specs.World.{first_need}
 use Rattle.kdf_yard.specs.declared.remark.Remark.{Remark}
@@ -211,7 +210,7 @@ module _ (slots : List Slot) (reaches : List Reach) (seats : List Seat) (s : Sha
     noted = note_of (own slots J p) answer
 
     meets : Meets (lone_world slots J) slots J heard (Obeys p noted)
-    meets = (turn_lone, ap (option_map world.hold_of) free_lone, refl)
+    meets = (turn_lone, free_lone, refl)
 
     noted_own : note_of (state_at m p) (truth (world_of m) J p heard) ≡ noted
     noted_own = ap (λ (x : State). note_of x answer) (state_is there) ∙ same-note slots J p answer free_lone

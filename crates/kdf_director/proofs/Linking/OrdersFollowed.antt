@@ -17,7 +17,7 @@ use Rattle.kdf_transfer.specs.InFlight.{area_words, lent_at}
 use Rattle.kdf_processor.specs.declared.registers.Registers.{Registers}
 use Rattle.kdf_processor.specs.Effect.{Question, Effect, Failing, Ending, Changing, Fetching, Keeping, Testing, Starting, Asking, Claiming, Returning, Spooling}
 use Rattle.kdf_processor.specs.Effect.{FreeOf}
-use Rattle.kdf_processor.specs.declared.step.Need.TheVariants.{Device}
+use Rattle.kdf_journal.specs.declared.need.Need.TheVariants.{Device}
 use Rattle.kdf_processor.specs.Lone.{is_live}
 use Rattle.kdf_processor.specs.Needs.{effect_needs, next_effect}
 use Rattle.kdf_processor.specs.Outcome.{Outcome, held_or}
@@ -54,7 +54,6 @@ use Rattle.kdf_theory.proofs.Seen.EffectsChecked.{IsLawful}
 use Rattle.kdf_theory.proofs.Course.LegalFacts.{legal_alive}
 use Rattle.kdf_director.proofs.Linking.TransfersLinked.{follow_part, linked_none, linked_set}
 use Rattle.kdf_theory.proofs.Course.OrdersObeyed.{obeys-flights, obeys-others, obeys-seen}
-use Rattle.kdf_theory.proofs.Course.WorldsJudged.{free_need}
 use Rattle.kdf_theory.proofs.Course.FlightsOnCourse.{IsOnCourse, apart-mine, free_hides_none, legal-course}
 use Rattle.kdf_theory.proofs.Course.SeenJournals.{same-need, same-note}
 use Rattle.kdf_theory.proofs.Seen.SeenStates.{seen_apart, seen_device_at, seen_number, seen_word_at}
@@ -150,7 +149,7 @@ module _ (slots : List Slot) (J : List Entry) (reaches : List Reach) (seats : Li
   part = turn.is_part reaches seats (moment 0 0) s i run lt is_on
 
   none_holds : first_need (lone_world slots J) p ≡ None
-  none_holds = free_need (first_need (lone_world slots J) p) meets.1
+  none_holds = meets.1
 
   -- nothing holds it up, in the machine either
   none : hold_of reaches seats s i ≡ None

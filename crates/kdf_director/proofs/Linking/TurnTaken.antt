@@ -1,5 +1,4 @@
 -- What the turn of a program that is next makes of the machine.
-use Rattle.std.specs.Option.{option_map}
 use Rattle.std.specs.Prelude.{unwrap_or}
 use Rattle.std.proofs.Common.{◌≡◌, ◌≢◌, ℕ, ◌<◌, inl, inr, ◌&&◌, Bool, true, false, List, length, get_or, map, set, Option, Some, None, is_some, cond, refl, sym}
 use Rattle.std.proofs.Common.{ap, ap₂, ◌∙◌, subst, ⊎_elim, arith}
@@ -11,7 +10,7 @@ use Rattle.kdf_journal.specs.declared.journal.TheConstants.{CALL_LIMIT}
 use Rattle.kdf_journal.specs.Counts.{answers, calls, clock, last_hold}
 use Rattle.kdf_journal.specs.Steps.{Note, JournalStep, Obeys, Holds, Waits, added}
 use Rattle.kdf_journal.proofs.Added.{calls-added, hold_by, holder-quiet, last_hold-added, moves-added}
-use Rattle.kdf_processor.specs.declared.step.Need.{Need}
+use Rattle.kdf_journal.specs.declared.need.Need.{Need}
 use Rattle.kdf_processor.specs.declared.step.Step.{Step}
 use Rattle.kdf_processor.specs.declared.step.Step.TheVariants as ending
 use Rattle.kdf_processor.specs.Effect.{Question, Nothing, Effect, Failing, Ending}
@@ -42,13 +41,13 @@ use Rattle.kdf_yard.specs.Fields.Standing.{Standing}
 use Rattle.kdf_director.specs.Fields.TurnTaken.{HasTaken, progress_of, step_told}
 use Rattle.kdf_theory.specs.ByJournal.{flights_of, lone_world, own, seen_of}
 use Rattle.kdf_theory.specs.True.{truth}
-use Rattle.kdf_theory.specs.World.{first_need, hold_left, need_of}
+use Rattle.kdf_theory.specs.World.{first_need, hold_left}
 use Rattle.kdf_theory.specs.World as world
 use Rattle.kdf_director.proofs.Linking.OrdersEntered.{agrees_obeyed, need_is, shows_obeyed, told, lone_heard, state_heard}
 use Rattle.kdf_director.proofs.Linking.EventsEntered.{shows}
 use Rattle.kdf_director.proofs.Linking.JudgedAlike.{hold_same}
 use Rattle.kdf_director.proofs.Linking.EventsFollowed.{held_follows, held_seen, waited_follows, waited_seen}
-use Rattle.kdf_theory.proofs.Course.WorldsJudged.{legal_added, need_again, true_added}
+use Rattle.kdf_theory.proofs.Course.WorldsJudged.{legal_added, true_added}
 use Rattle.kdf_director.proofs.Linking.TransfersLinked.{follow_part}
 use Rattle.kdf_theory.proofs.Course.FlightsOnCourse.{legal-course}
 use Rattle.kdf_theory.proofs.Course.SeenJournals.{same-need}
@@ -86,7 +85,7 @@ hold_free ended free = refl
 -- ---- what a machine is after a call
 
 abbrev pub holds_in : List Seat → List Entry → List (Option Need)
-holds_in seats J = map (λ (x : Seat). option_map need_of (last_hold x.p J)) seats
+holds_in seats J = map (λ (x : Seat). last_hold x.p J) seats
 
 abbrev pub shown : List Slot → List Reach → List Seat → Shared → List Entry → ℕ → MachineView
 shown slots reaches seats s J room =
@@ -118,7 +117,7 @@ module _ (service : ℕ → ℕ → Type 0) (slots : List Slot) (reaches : List 
   -- the holds of a step that names no program
   pub holds_stay : (st : JournalStep) → ((p : ℕ) → hold_by p (last_hold p J) st ≡ last_hold p J) → holds ≡ holds_in seats (added J st)
   holds_stay st quiet =
-      have ∙ ap (λ (f : Seat → Option Need). map f seats) (fun_ext (λ (x : Seat). ap (option_map need_of) (sym (last_hold-added x.p J st ∙ quiet x.p))))
+      have ∙ ap (λ (f : Seat → Option Need). map f seats) (fun_ext (λ (x : Seat). sym (last_hold-added x.p J st ∙ quiet x.p)))
 
   -- ---- no program goes on
   module _ (live : any_live slots J ≡ true) (none : next (world_of m) slots J ≡ None) where
@@ -185,7 +184,7 @@ module _ (service : ℕ → ℕ → Type 0) (slots : List Slot) (reaches : List 
           ∙ sym (get_or-map (λ (x : Seat). x.p) seats j no_seat 0 (omega arith)))
 
       -- the holds where a step leaves that of the program so, and every other's
-      holds_more : (st : JournalStep) (h : Option Need) → option_map need_of (hold_by p (last_hold p J) st) ≡ h
+      holds_more : (st : JournalStep) (h : Option Need) → hold_by p (last_hold p J) st ≡ h
           → ((k : ℕ) → p ≢ k → hold_by k (last_hold k J) st ≡ last_hold k J) → set holds i h ≡ holds_in seats' (added J st)
       holds_more st h its others =
           ext_get_or None _ _
@@ -199,20 +198,20 @@ module _ (service : ℕ → ℕ → Type 0) (slots : List Slot) (reaches : List 
           ap (λ k. get_or (set holds i h) k None) same
           ∙ get_or-set_same holds i h None there
           ∙ sym its
-          ∙ ap (option_map need_of) (sym (last_hold-added p J st))
-          ∙ ap (λ k. option_map need_of (last_hold (seat_at seats k).p (added J st))) (sym same))
+          ∙ sym (last_hold-added p J st)
+          ∙ ap (λ k. last_hold (seat_at seats k).p (added J st)) (sym same))
           (λ (ne : j ≢ i).
           let apart = numbers_apart reaches seats s i j a.running lt inside (λ e. ne (sym e)) in
           get_or-set_other holds i j h None ne
           ∙ ap (λ hs. get_or hs j None) have
           ∙ get_or-map (told_by J) seats j no_seat None inside
-          ∙ ap (option_map need_of) (sym (last_hold-added (seat_at seats j).p J st ∙ others (seat_at seats j).p apart)))
+          ∙ sym (last_hold-added (seat_at seats j).p J st ∙ others (seat_at seats j).p apart))
           (cases_eq j i)
-          ∙ ap (λ k. option_map need_of (last_hold k (added J st))) (sym (t.turned.numbers j))
+          ∙ ap (λ k. last_hold k (added J st)) (sym (t.turned.numbers j))
           ∙ sym (get_or-map (told_by (added J st)) seats' j no_seat None (omega arith)))
         where
           told_by : List Entry → Seat → Option Need
-          told_by L x = option_map need_of (last_hold x.p L)
+          told_by L x = last_hold x.p L
 
       -- in this world its journal is J with a step more
       by_step : (st : JournalStep) (h : Option Need) (x : Progress) → step_told (seat_at seats' i).p (seat_at seats' i).registers.ran t.ended t.noted ≡ st
@@ -256,7 +255,7 @@ module _ (service : ℕ → ℕ → Type 0) (slots : List Slot) (reaches : List 
           (progress_free (seat_at seats' i).p t.ended (not_held free) ∙ ap (λ q. progress.Ran q) (t.turned.numbers i))
           (record {
             agrees = agrees_obeyed slots reaches seats s J room a i lt heard turn free seats' s' t.ended t.noted t.turned run few same_numbers;
-            holds_are = holds_more (Obeys p noted) None (ap (λ b. option_map need_of (cond b None (last_hold p J))) (eq-eqb p p refl))
+            holds_are = holds_more (Obeys p noted) None (ap (λ b. cond b None (last_hold p J)) (eq-eqb p p refl))
                 (λ k ne. ap (λ b. cond b None (last_hold k J)) (ne_eqb p k ne));
             advance = record {
               heard = heard;
@@ -277,7 +276,7 @@ module _ (service : ℕ → ℕ → Type 0) (slots : List Slot) (reaches : List 
         q = part_at reaches seats i
 
         abbrev st : JournalStep
-        st = Holds p (world.hold_of need)
+        st = Holds p need
 
         outcome_held : (n : ℕ) → outcome_at reaches seats s (moment (clock J) heard) n i ≡ record {
           step = ending.Held need;
@@ -316,13 +315,13 @@ module _ (service : ℕ → ℕ → Type 0) (slots : List Slot) (reaches : List 
         meets_hold : Meets (lone_world slots J) slots J 0 st
         meets_hold = (
           next-world (own slots J) (state_at m) slots J ∙ turn,
-          ap (option_map world.hold_of) (sym (same-need slots J p)
+          (sym (same-need slots J p)
               ∙ sym (hold_same slots J reaches seats s a.running a.following i lt (legal-course slots J a.are a.legal p) a.lent)
               ∙ held),
         )
 
         still : AreFollowing slots (added J st) reaches seats s
-        still = held_follows slots J reaches seats s a.are a.legal a.running a.following p (world.hold_of need)
+        still = held_follows slots J reaches seats s a.are a.legal a.running a.following p need
 
         follows : AreFollowing slots (added J st) reaches seats' s'
         follows =
@@ -367,21 +366,21 @@ module _ (service : ℕ → ℕ → Type 0) (slots : List Slot) (reaches : List 
         held_turn =
             by_step st (Some need) (progress.Held p need)
             (ap (λ e. step_told (seat_at seats' i).p (seat_at seats' i).registers.ran e t.noted) ended_is
-            ∙ ap (λ k. Holds k (world.hold_of need)) (t.turned.numbers i))
+            ∙ ap (λ k. Holds k need) (t.turned.numbers i))
             (ap hold_left ended_is)
             (ap (progress_of (seat_at seats' i).p) ended_is ∙ ap (λ k. progress.Held k need) (t.turned.numbers i))
             (record {
               agrees = agrees_held;
               holds_are = holds_more st (Some need)
-                  (ap (λ b. option_map need_of (cond b (Some (world.hold_of need)) (last_hold p J))) (eq-eqb p p refl) ∙ ap Some (need_again need))
-                  (λ k ne. ap (λ b. cond b (Some (world.hold_of need)) (last_hold k J)) (ne_eqb p k ne));
+                  (ap (λ b. cond b (Some need) (last_hold p J)) (eq-eqb p p refl))
+                  (λ k ne. ap (λ b. cond b (Some need) (last_hold k J)) (ne_eqb p k ne));
               advance = record {
                 heard = 0;
                 is_heard = tt;
                 advance = record {
                   was_next = turn;
                   held = need_is slots reaches seats s J room a i lt there ∙ held;
-                  states = states_stay st seats' s' agrees_held (held_seen slots J reaches seats s a.are a.legal a.running a.following p (world.hold_of need));
+                  states = states_stay st seats' s' agrees_held (held_seen slots J reaches seats s a.are a.legal a.running a.following p need);
                   journal = refl;
                 };
               };

@@ -2,7 +2,6 @@
 use Rattle.std.proofs.Common.{◌≡◌, ◌≢◌, ℕ, zero, suc, ◌<◌, ◌≤◌, List, [], ◌∷◌, length, get_or, map, cond, Option, Some, None, is_some, refl, sym, ap, ◌∙◌}
 use Rattle.std.proofs.Common.{subst, arith}
 use Rattle.std.specs.List.{AllPairs}
-use Rattle.std.specs.Option.{option_map}
 use Rattle.std.proofs.lemmas.Bool.{eq-eqb, ne_eqb}
 use Rattle.std.proofs.lemmas.List.Elements.{All-map}
 use Rattle.std.proofs.lemmas.List.{ext_get_or, get_or-map, length-map}
@@ -27,7 +26,6 @@ use Rattle.kdf_theory.specs.Slots.{no_slot, start, start_of}
 use Rattle.kdf_theory.specs.Slots as slots
 use Rattle.kdf_places.specs.Spots.{Held}
 use Rattle.kdf_theory.specs.ByJournal.{seen_of}
-use Rattle.kdf_theory.specs.World.{need_of}
 use Rattle.kdf_theory.proofs.Lists.{map_twice}
 use Rattle.kdf_theory.proofs.Course.WorldsJudged.{legal_nil, true_nil}
 use Rattle.kdf_theory.proofs.JobsLoaded.{no_load}
@@ -111,11 +109,11 @@ module _ (xs : List SlotLoad) (y : Standing) (is : IsLoaded xs y) where
         few_moves = omega arith;
       }
 
-  none_held : y.holds ≡ map (λ (x : Seat). option_map need_of (last_hold x.p [])) y.seats
+  none_held : y.holds ≡ map (λ (x : Seat). last_hold x.p []) y.seats
   none_held =
       is.no_hold
-      ∙ sym (map_twice (λ (x : Seat). option_map need_of (last_hold x.p [])) first_seat xs)
-      ∙ ap (map (λ (x : Seat). option_map need_of (last_hold x.p []))) (sym is.programs_are)
+      ∙ sym (map_twice (λ (x : Seat). last_hold x.p []) first_seat xs)
+      ∙ ap (map (λ (x : Seat). last_hold x.p [])) (sym is.programs_are)
 
   pub is_ready : (J : Recorded) (room : ℕ) → J.entries ≡ [] → room ≤ J.spare → room ≤ EVENT_LIMIT → IsReady y J room
   is_ready J room empty fits few =

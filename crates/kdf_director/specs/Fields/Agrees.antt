@@ -1,7 +1,6 @@
 -- How the fields of a machine agree with its slots and its journal.
 use Rattle.std.specs.Prelude.{◌≡◌, ℕ, ◌+◌, ◌*◌, ◌<◌, ◌≤◌, List, map, true}
 use Rattle.std.specs.List.{All}
-use Rattle.std.specs.Option.{option_map}
 use Rattle.kdf_journal.specs.declared.entry.Entry.{Entry}
 use Rattle.kdf_journal.specs.declared.journal.TheConstants.{CALL_LIMIT, MOVE_LIMIT}
 use Rattle.kdf_journal.specs.Recorded.{Recorded}
@@ -15,7 +14,6 @@ use Rattle.kdf_places.specs.Shared.{Shared}
 use Rattle.kdf_yard.specs.Fields.Running.{AreLent, IsRunning}
 use Rattle.kdf_yard.specs.Fields.Standing.{Standing}
 use Rattle.kdf_theory.specs.Slots.{AreSlots}
-use Rattle.kdf_theory.specs.World.{need_of}
 
 -- the slots are of four numbers, the programs are theirs and follow the journal over what they share, the pool lends as
 -- the journal tells, and the journal is legal and true
@@ -36,7 +34,7 @@ pub record Agrees (slots : List Slot) (reaches : List Reach) (seats : List Seat)
 -- events more, each of which may be a move of 4,096 words
 pub record IsReady (y : Standing) (J : Recorded) (room : ℕ) : Type 0 where
   pub agrees : Agrees y.slots y.reaches y.seats y.shared J.entries
-  pub holds : y.holds ≡ map (λ (x : Seat). option_map need_of (last_hold x.p J.entries)) y.seats
+  pub holds : y.holds ≡ map (λ (x : Seat). last_hold x.p J.entries) y.seats
   pub fits : room ≤ J.spare
   pub few_events : room ≤ EVENT_LIMIT
   pub few_words : moves J.entries + 4096 * room ≤ MOVE_LIMIT

@@ -3,7 +3,7 @@ use Rattle.std.specs.Prelude.{◌≡◌, ℕ, List, Option, slice_set, unwrap_or
 use Rattle.kdf_journal.specs.declared.entry.Entry.{Entry}
 use Rattle.kdf_journal.specs.Counts.{clock}
 use Rattle.kdf_journal.specs.Steps.{JournalStep, Obeys, Holds, added}
-use Rattle.kdf_processor.specs.declared.step.Need.{Need}
+use Rattle.kdf_journal.specs.declared.need.Need.{Need}
 use Rattle.kdf_processor.specs.declared.step.Step.{Step}
 use Rattle.kdf_processor.specs.declared.step.Step.TheVariants as ending
 use Rattle.kdf_director.specs.declared.machine.Progress.{Progress}
@@ -15,12 +15,12 @@ use Rattle.kdf_places.specs.Shared.{Shared}
 use Rattle.kdf_yard.specs.Fields.Running.{reach_at, seat_at}
 use Rattle.kdf_yard.specs.Fields.Shared.{moment}
 use Rattle.kdf_yard.specs.Fields.Turned.{word_over, HasTurned}
-use Rattle.kdf_theory.specs.World.{hold_left, hold_of}
+use Rattle.kdf_theory.specs.World.{hold_left}
 use Rattle.kdf_theory.specs.Asked.{HasAsked}
 
 -- the step of program p that is entered: that it was held, or that it obeyed its own order k, with the note
 abbrev pub step_told : ℕ → ℕ → Step → Remark → JournalStep
-step_told p k (ending.Held need) beside = Holds p (hold_of need)
+step_told p k (ending.Held need) beside = Holds p need
 step_told p k ended beside = Obeys p (note_told k ended beside)
 
 -- what a call answers in which program p had its turn

@@ -2,15 +2,16 @@
 //! each of them `slots` are those that are loaded, `J` is a journal, and `heard` is what a program heard of the
 //! service, if it asked it.
 ghost use Rattle.std.specs.Prelude.{◌≡◌, ◌≢◌, ℕ, ◌-◌, ◌≤◌, List, [], ◌∷◌, ◌++◌, Some, None, false, true, is_some, length, min, not, slice_set, take};
+ghost use Rattle.kdf_journal.specs.declared.need.Need.{Need};
 ghost use Rattle.kdf_journal.specs.declared.entry.Entry.{Entry};
 ghost use Rattle.kdf_journal.specs.declared.kind.Kind.{Kind};
-ghost use Rattle.kdf_journal.specs.Counts.{Hold, answers, holder, moved, over, pending, ran, taker};
+ghost use Rattle.kdf_journal.specs.Counts.{answers, holder, moved, over, pending, ran, taker};
 ghost use Rattle.kdf_journal.specs.Steps.{Note, JournalStep, Obeys, Holds, Waits, Moves, Ends, Sets, Swaps};
 ghost use Rattle.kdf_journal.specs.Steps.{added, journal_of, steps};
 ghost use Rattle.kdf_schedule.specs.declared.event.Event.{Event};
 ghost use Rattle.kdf_schedule.specs.Calls.{Call};
 ghost use Rattle.kdf_transfer.specs.AtOnce.{written};
-ghost use Rattle.kdf_processor.specs.declared.step.Need.TheVariants.{Pool};
+ghost use Rattle.kdf_journal.specs.declared.need.Need.TheVariants.{Pool};
 ghost use Rattle.kdf_processor.specs.Claims.{taken_device};
 ghost use Rattle.kdf_processor.specs.Effect.{Question, FreeOf};
 ghost use Rattle.kdf_processor.specs.Lone.{is_live};
@@ -159,7 +160,7 @@ pub fn transfer_ended()
 /// A hold, a call that finds no program to go on, the time that is set and an exchange of priorities change no
 /// program's state and no transfer.
 pub fn nothing_changed()
-    ensures held { (slots : List Slot) (J : List Entry) (p q : ℕ) (by : Hold) → AreSlots slots →
+    ensures held { (slots : List Slot) (J : List Entry) (p q : ℕ) (by : Need) → AreSlots slots →
         IsLegal slots J → (own slots (added J (Holds q by)) p ≡ own slots J p)
         × (flights_of slots (added J (Holds q by)) p ≡ flights_of slots J p) }
     ensures waited { (slots : List Slot) (J : List Entry) (p : ℕ) → AreSlots slots →

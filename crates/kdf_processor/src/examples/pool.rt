@@ -9,7 +9,7 @@ ghost use Rattle.kdf_media.specs.Examples.{letters};
 ghost use Rattle.kdf_transfer.specs.declared.order.TransferOrder.TheVariants.{Pwq};
 ghost use Rattle.kdf_transfer.specs.Examples.{ab, having};
 ghost use Rattle.kdf_processor.specs.declared.registers.Life.TheVariants.{Live, Ended, Failed};
-ghost use Rattle.kdf_processor.specs.declared.step.Need.TheVariants.{Device, Pool};
+ghost use Rattle.kdf_journal.specs.declared.need.Need.TheVariants.{Device, Pool};
 ghost use Rattle.kdf_processor.specs.Effect.{Asks, FreeOf, Acquires, Releases, Starts};
 ghost use Rattle.kdf_processor.specs.Examples.{parts, rejects, replaces};
 ghost use Rattle.kdf_processor.specs.PoolExamples.{after, beside, borrows, held, lent_punch, needs_for, no_pool, one_punch};

@@ -4,7 +4,7 @@
 
 ghost use Rattle.std.specs.Prelude.{◌≡◌, [], ◌∷◌};
 ghost use Rattle.kdf_syllable.specs.declared.order.Order.TheVariants as order;
-ghost use Rattle.kdf_processor.specs.declared.step.Need.TheVariants.{Group, Device};
+ghost use Rattle.kdf_journal.specs.declared.need.Need.TheVariants.{Group, Device};
 ghost use Rattle.kdf_processor.specs.Examples.{parts, counted, linked, waits_for, label_a, label_b};
 
 /// A transfer needs its device, and then the groups of its area, be it input or output; one without an area needs

@@ -12,7 +12,7 @@ use Rattle.kdf_journal.specs.Counts.{answers, holder, over, ran, taker, unless_o
 use Rattle.kdf_journal.specs.Steps.{Note, JournalStep, Obeys, Holds, Waits, Moves, Ends, Sets, Swaps, added, journal_of, steps}
 use Rattle.kdf_journal.proofs.Added.{answer_in_note, answers_by, ends_by, over-added, ran_by, taker_by, taker-added}
 use Rattle.kdf_transfer.specs.Devices.{Fixture, is_kind}
-use Rattle.kdf_processor.specs.declared.step.Need.TheVariants.{Pool}
+use Rattle.kdf_journal.specs.declared.need.Need.TheVariants.{Pool}
 use Rattle.kdf_processor.proofs.Frees.{none_of_kind}
 use Rattle.kdf_processor.specs.Claims.{can_take, is_claimed, kind_at, least_pooled, taken_device}
 use Rattle.kdf_processor.specs.Effect.{Question, FreeOf, Effect, Failing, Ending, Starting, Asking, Claiming, Returning}
@@ -34,7 +34,7 @@ use Rattle.kdf_theory.specs.ByJournal.{free_after, is_free_after, is_pending_aft
 use Rattle.kdf_theory.specs.True.{truth}
 use Rattle.kdf_theory.specs.World.{first_need}
 use Rattle.kdf_theory.proofs.Seen.WholeTransfers.{transferred_claims}
-use Rattle.kdf_theory.proofs.Course.WorldsJudged.{free_need, meets_truly}
+use Rattle.kdf_theory.proofs.Course.WorldsJudged.{meets_truly}
 use Rattle.kdf_theory.proofs.Course.LegalFacts.{IsKept, ends_not, kept_of}
 use Rattle.kdf_theory.proofs.Course.FlightsOnCourse.{effect-free, free_hides_none}
 use Rattle.kdf_theory.proofs.Course.OwnSteps.{own-nil, own-obeys, own-same}
@@ -317,7 +317,7 @@ held-added : (slots : List Slot) (J : List Entry) (heard : ℕ) (s : JournalStep
 held-added slots J heard (Obeys p note) are m kept held q =
     rw m.2
     (turn_held slots J p are (kept p) held (next_on (lone_world slots J) slots J p m.0)
-    (effect-free (is_pending_after slots J p) (mine_after J p) (own slots J p) (free_hides_none slots J p (free_need (first_need (lone_world slots J) p) m.1)))
+    (effect-free (is_pending_after slots J p) (mine_after J p) (own slots J p) (free_hides_none slots J p m.1))
     heard q)
 held-added slots J heard (Holds p by) are m kept held q = held-stays slots J (Holds p by) q refl refl refl (λ d pooled live. refl) (held q)
 held-added slots J heard Waits are m kept held q = held-stays slots J Waits q refl refl refl (λ d pooled live. refl) (held q)

@@ -7,15 +7,15 @@ use Rattle.std.proofs.Math.Path.{fun_ext}
 use Rattle.std.proofs.lemmas.Bool.{true≢false}
 use Rattle.kdf_journal.specs.declared.entry.Entry.{Entry}
 use Rattle.kdf_journal.specs.declared.kind.Kind.{Kind}
-use Rattle.kdf_journal.specs.Counts.{Hold, answers, clock, holder, last_hold, moved_if, over, pending, priorities, ran, slot_numbers, taker, unless_over}
+use Rattle.kdf_journal.specs.Counts.{answers, clock, holder, last_hold, moved_if, over, pending, priorities, ran, slot_numbers, taker, unless_over}
 use Rattle.kdf_journal.specs.Steps.{Note, Answered, Took, Gave, JournalStep, Obeys, Holds, Waits, Moves, Ends, Sets, Swaps, added, journal_of, steps}
 use Rattle.kdf_journal.proofs.Added.{ends_by, over-added, taker-added, taker_by}
 use Rattle.kdf_journal.proofs.Steps.{steps-journal_of}
 use Rattle.kdf_schedule.specs.declared.event.Event.{Event}
 use Rattle.kdf_schedule.specs.Calls.{Call, calls_made}
 use Rattle.kdf_schedule.proofs.Schedules.{calls_made-append}
-use Rattle.kdf_processor.specs.declared.step.Need.{Need}
-use Rattle.kdf_processor.specs.declared.step.Need.TheVariants.{Group, Device, Pool}
+use Rattle.kdf_journal.specs.declared.need.Need.{Need}
+use Rattle.kdf_journal.specs.declared.need.Need.TheVariants.{Group, Device, Pool}
 use Rattle.kdf_processor.specs.Effect.{Question, IsBusy, IsOut, Time, FreeOf, OfService, Effect, Asking}
 use Rattle.kdf_processor.specs.Lone.{lone}
 use Rattle.kdf_processor.specs.Needs.{next_effect}
@@ -150,7 +150,7 @@ next_alike : (w : any.Dispatch) (J K : List Entry) → ((p : ℕ) → over p J �
     → any.next w J ≡ any.next w K
 unfolding any.next any.can_go any.lives
 next_alike w J K ended hold order =
-    ap₂ find (fun_ext (λ p. ap₂ (λ (b : Bool) (o : Option Hold). (w.there p && not b) && not (any.stands w p o)) (ended p) (hold p))) order
+    ap₂ find (fun_ext (λ p. ap₂ (λ (b : Bool) (o : Option Need). (w.there p && not b) && not (any.stands w p o)) (ended p) (hold p))) order
 
 module _ (slots : List Slot) (J K : List Entry) (is : IsJudged slots J K) where
   pub own_is : (p : ℕ) → own slots J p ≡ own slots K p

@@ -6,8 +6,8 @@ use Rattle.std.specs.List.{filter, list_any, range_with_len}
 use Rattle.std.proofs.Math.Path.{fun_ext}
 use Rattle.std.proofs.lemmas.Bool.{or_parts, cases_eq, eq-eqb, ne_eqb, false_from_ne_true, false≢true}
 use Rattle.std.proofs.lemmas.List.Folds.{list_any-append}
-use Rattle.kdf_processor.specs.declared.step.Need.{Need}
-use Rattle.kdf_processor.specs.declared.step.Need.TheVariants.{Group, Device, Pool}
+use Rattle.kdf_journal.specs.declared.need.Need.{Need}
+use Rattle.kdf_journal.specs.declared.need.Need.TheVariants.{Group, Device, Pool}
 use Rattle.kdf_processor.specs.Effect.{Question, Effect, Failing, Ending, Starting, Asking, FreeOf, Returning}
 use Rattle.kdf_processor.specs.Frame.{HidesNone}
 use Rattle.kdf_processor.specs.Lone.{is_live}
@@ -33,7 +33,6 @@ use Rattle.kdf_theory.proofs.Seen.OrdersSeen.{begun_seen, with_flight_is, with_f
 use Rattle.kdf_theory.proofs.Seen.TransfersEnd.{flying_ended}
 use Rattle.kdf_theory.proofs.Course.FlightsAdded.{IsPast, begun_at, flight-stays, flights-end, flights-move, flights-obey, none-there, pending_behind}
 use Rattle.kdf_theory.proofs.Course.FlightsAdded.{pending-obeys}
-use Rattle.kdf_theory.proofs.Course.WorldsJudged.{free_need}
 use Rattle.kdf_theory.proofs.Course.LegalFacts.{IsKept, kept_of}
 use Rattle.kdf_theory.proofs.Seen.WordsMove.{flying_moved}
 use Rattle.kdf_theory.proofs.Seen.NoneInFlight.{nothing_flying, over_row}
@@ -410,7 +409,7 @@ course-added : (slots : List Slot) (J : List Entry) (s : JournalStep) → rules.
     → ((q : ℕ) → IsOnCourse slots J q) → (q : ℕ) → IsOnCourse slots (added J s) q
 course-added slots J (Obeys p note) m kept course q =
     let live : is_live (own slots J p).registers.state ≡ true = (kept p).alive ∙ next_on (lone_world slots J) slots J p m.0 in
-    rw m.2.1 (course-turn slots J p (λ _. m.2.0) live (free_hides_none slots J p (free_need (first_need (lone_world slots J) p) m.1)) kept course q)
+    rw m.2.1 (course-turn slots J p (λ _. m.2.0) live (free_hides_none slots J p m.1) kept course q)
 course-added slots J (Holds p by) m kept course q = course-quiet slots J (Holds p by) q (kept q).asked refl refl (λ d. refl) (λ d. refl) (course q)
 course-added slots J Waits m kept course q = course-quiet slots J Waits q (kept q).asked refl refl (λ d. refl) (λ d. refl) (course q)
 course-added slots J (Moves d n) m kept course q = course-move slots J q (kept q).asked (course q) d n

@@ -15,7 +15,6 @@ use Rattle.kdf_theory.specs.Slots.{AreSlots}
 use Rattle.kdf_theory.specs.ByJournal.{own, flights_of, is_pending_after, lone_world, mine_after, seen_of}
 use Rattle.kdf_theory.specs.True.{truth}
 use Rattle.kdf_theory.specs.World.{first_need}
-use Rattle.kdf_theory.proofs.Course.WorldsJudged.{free_need}
 use Rattle.kdf_theory.proofs.Course.LegalFacts.{legal_alive, legal_asked}
 use Rattle.kdf_theory.proofs.Course.FlightsOnCourse.{effect-free, flights-beside, flights-then, free_hides_none, legal-course, own-beside, seen-then}
 use Rattle.kdf_theory.proofs.Course.OwnSteps.{own-obeys}
@@ -27,7 +26,7 @@ module _ (slots : List Slot) (J : List Entry) (p : ℕ) (heard : ℕ) (note : No
   answer = truth (lone_world slots J) J p heard
 
   none_holds : first_need (lone_world slots J) p ≡ None
-  none_holds = free_need (first_need (lone_world slots J) p) m.1
+  none_holds = m.1
 
   live : is_live (own slots J p).registers.state ≡ true
   live = legal_alive slots J l p ∙ next_on (lone_world slots J) slots J p m.0

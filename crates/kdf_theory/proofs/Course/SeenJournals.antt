@@ -2,7 +2,7 @@
 -- it.
 use Rattle.std.proofs.Common.{◌≡◌, ℕ, List, Option, Some, None, false, refl, sym, ◌∙◌, ap, ap₂, take, set, length}
 use Rattle.kdf_transfer.specs.AtOnce.{written}
-use Rattle.kdf_processor.specs.declared.step.Need.{Need}
+use Rattle.kdf_journal.specs.declared.need.Need.{Need}
 use Rattle.kdf_processor.specs.Effect.{Question, Effect, Failing}
 use Rattle.kdf_processor.specs.Lone.{is_live, lone}
 use Rattle.kdf_processor.specs.Needs.{next_effect}
@@ -12,7 +12,6 @@ use Rattle.kdf_processor.specs.State.{State, device_in}
 use Rattle.kdf_processor.proofs.FrameLemmas.{agree_under, first_agree}
 use Rattle.kdf_processor.proofs.LoneLemmas.{same_end}
 use Rattle.kdf_schedule.specs.Calls.{Call, AnOrder, AMove, AnEnd, AClock, ASwap}
-use Rattle.std.specs.Option.{option_map}
 use Rattle.kdf_course.specs.Course.{turn_step, turn_step_of}
 use Rattle.kdf_theory.specs.Course.{step_at, lone_step_at}
 use Rattle.kdf_journal.specs.declared.entry.Entry.{Entry}
@@ -25,11 +24,10 @@ use Rattle.kdf_theory.specs.Seen.{pending_in_flight, seen, with_both, with_store
 use Rattle.kdf_theory.specs.Slots.{start}
 use Rattle.kdf_theory.specs.ByJournal.{own_after, own, flights_of, further, is_pending_after, lone_world, mine_after, seen_of, seen_world}
 use Rattle.kdf_theory.specs.True.{truth}
-use Rattle.kdf_theory.specs.World.{first_need, hold_of}
+use Rattle.kdf_theory.specs.World.{first_need}
 use Rattle.kdf_theory.proofs.Seen.OrdersSeen.{same_next}
 use Rattle.kdf_theory.proofs.Seen.TransfersEnd.{ends_seen}
 use Rattle.kdf_theory.proofs.Course.FlightsAdded.{flights-end, flights-move}
-use Rattle.kdf_theory.proofs.Course.WorldsJudged.{free_need}
 use Rattle.kdf_theory.proofs.Seen.WordsMove.{moves_seen, with_flight_itself}
 use Rattle.kdf_theory.proofs.Course.FlightsOnCourse.{IsOnCourse, apart-mine, free_hides_none, pending-more}
 use Rattle.kdf_theory.proofs.Course.OwnSteps.{own-same}
@@ -63,13 +61,13 @@ same-note slots J p answer none =
 pub judged : (slots : List Slot) (J : List Entry) (heard : ℕ) (s : JournalStep) → Meets (seen_world slots J) slots J heard s
     → Meets (lone_world slots J) slots J heard s
 judged slots J heard (Obeys p note) m =
-    let none : first_need (lone_world slots J) p ≡ None = sym (same-need slots J p) ∙ free_need (first_need (seen_world slots J) p) m.1 in (
+    let none : first_need (lone_world slots J) p ≡ None = sym (same-need slots J p) ∙ m.1 in (
       next-world (own slots J) (seen_of slots J) slots J ∙ m.0,
-      ap (option_map hold_of) none,
+      none,
       m.2
           ∙ same-note slots J p (truth (lone_world slots J) J p heard) none,
     )
-judged slots J heard (Holds p by) m = (next-world (own slots J) (seen_of slots J) slots J ∙ m.0, ap (option_map hold_of) (sym (same-need slots J p)) ∙ m.1)
+judged slots J heard (Holds p by) m = (next-world (own slots J) (seen_of slots J) slots J ∙ m.0, sym (same-need slots J p) ∙ m.1)
 judged slots J heard Waits m = (m.0, next-world (own slots J) (seen_of slots J) slots J ∙ m.1)
 judged slots J heard (Moves d n) m = tt
 judged slots J heard (Ends d) m = tt
@@ -78,7 +76,7 @@ judged slots J heard (Swaps p q) m = m
 
 -- and each call makes the same step
 same-turn : (slots : List Slot) (J : List Entry) (heard p : ℕ) (o : Option Need) → first_need (lone_world slots J) p ≡ o
-    → turn_step (true_note (seen_world slots J) J heard) p (option_map hold_of o) ≡ turn_step (lone_note slots heard J) p (option_map hold_of o)
+    → turn_step (true_note (seen_world slots J) J heard) p o ≡ turn_step (lone_note slots heard J) p o
 same-turn slots J heard p None none = ap (λ (n : Note). Obeys p n) (same-note slots J p (truth (lone_world slots J) J p heard) none)
 same-turn slots J heard p (Some need) held = refl
 
@@ -87,7 +85,7 @@ same-turn_of : (slots : List Slot) (J : List Entry) (heard : ℕ) (o : Option �
     ≡ turn_step_of (lone_dispatched slots J) (lone_note slots heard J) o
 same-turn_of slots J heard None = refl
 same-turn_of slots J heard (Some p) =
-    ap (λ (o : Option Need). turn_step (true_note (seen_world slots J) J heard) p (option_map hold_of o)) (same-need slots J p)
+    ap (λ (o : Option Need). turn_step (true_note (seen_world slots J) J heard) p o) (same-need slots J p)
     ∙ same-turn slots J heard p (first_need (lone_world slots J) p) refl
 
 pub same-step : (slots : List Slot) (J : List Entry) (heard : ℕ) (c : Call) → step_at (seen_world slots J) slots J heard c ≡ lone_step_at slots J heard c

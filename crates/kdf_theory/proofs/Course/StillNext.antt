@@ -6,11 +6,11 @@ use Rattle.std.proofs.Math.Path.{fun_ext}
 use Rattle.std.proofs.lemmas.Bool.{cases_eq, eq-eqb, ne_eqb}
 use Rattle.kdf_journal.specs.declared.entry.Entry.{Entry}
 use Rattle.kdf_journal.specs.declared.kind.Kind.{Kind}
-use Rattle.kdf_journal.specs.Counts.{Hold, last_hold, priorities}
+use Rattle.kdf_journal.specs.Counts.{last_hold, priorities}
 use Rattle.kdf_journal.specs.Steps.{Quiet, Obeys, added}
 use Rattle.kdf_journal.proofs.Added.{holder-quiet, last_hold-added, over-added, pending-added, priorities-added}
-use Rattle.kdf_processor.specs.declared.step.Need.{Need}
-use Rattle.kdf_processor.specs.declared.step.Need.TheVariants.{Group, Device, Pool}
+use Rattle.kdf_journal.specs.declared.need.Need.{Need}
+use Rattle.kdf_journal.specs.declared.need.Need.TheVariants.{Group, Device, Pool}
 use Rattle.kdf_processor.specs.State.{State, pool_kind_at}
 use Rattle.kdf_transfer.specs.ByNumber.{device_count}
 use Rattle.kdf_transfer.specs.Devices.{is_kind}
@@ -22,7 +22,7 @@ use Rattle.kdf_theory.specs.Next.{dispatched, next}
 use Rattle.kdf_theory.specs.Seen.{touched_below}
 use Rattle.kdf_theory.specs.Slots.{AreSlots, slot_of, start}
 use Rattle.kdf_theory.specs.ByJournal.{free_after, is_pending_after, world_after}
-use Rattle.kdf_theory.specs.World.{World, need_of}
+use Rattle.kdf_theory.specs.World.{World}
 use Rattle.kdf_theory.proofs.Course.LegalFacts.{legal_asked}
 use Rattle.kdf_theory.proofs.Course.FlightsOnCourse.{flights-quiet, legal-course}
 use Rattle.kdf_theory.proofs.Course.Worlds.{next_on, next_slot}
@@ -69,9 +69,9 @@ module _ (slots : List Slot) (J : List Entry) (p : ℕ) (are : AreSlots slots) (
     abbrev v : World
     v = world_after slots K others
 
-    same_stands : (q : ℕ) (o : Option Hold) → stands (dispatched slots v) q o ≡ stands (dispatched slots w) q o
+    same_stands : (q : ℕ) (o : Option Need) → stands (dispatched slots v) q o ≡ stands (dispatched slots w) q o
     same_stands q None = refl
-    same_stands q (Some by) = same_pending q (need_of by)
+    same_stands q (Some by) = same_pending q by
 
     same_go : (q : ℕ) → p ≢ q → can_go (dispatched slots v) K q ≡ can_go (dispatched slots w) J q
     unfolding can_go lives

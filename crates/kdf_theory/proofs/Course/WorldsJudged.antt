@@ -1,15 +1,11 @@
 -- What dispatching reads of a world, and what makes a legal journal a true one.
 use Rattle.std.proofs.Common.{◌≡◌, ℕ, ◌+◌, List, [], ◌∷◌, Option, Some, None, refl, sym, ◌∙◌, ap, subst}
-use Rattle.std.specs.Option.{option_map}
-use Rattle.kdf_processor.specs.declared.step.Need.{Need}
-use Rattle.kdf_processor.specs.declared.step.Need.TheVariants.{Group, Device, Pool}
 use Rattle.kdf_processor.specs.Effect.{Question, IsBusy, IsOut, Time, FreeOf, OfService, Asks, Effect, Asking}
 use Rattle.kdf_processor.specs.Needs.{next_effect}
 use Rattle.kdf_processor.specs.Row.{done_by}
 use Rattle.kdf_transfer.specs.Slots.{Slot}
 use Rattle.kdf_processor.specs.State.{State}
 use Rattle.kdf_journal.specs.declared.entry.Entry.{Entry}
-use Rattle.kdf_journal.specs.Counts.{Hold}
 use Rattle.kdf_journal.specs.Steps.{Note, Quiet, Began, Answered, Took, Gave, Failed, Finished, JournalStep, Obeys, Holds, Waits, Moves, Ends, Sets, Swaps}
 use Rattle.kdf_journal.specs.Steps.{added}
 use Rattle.kdf_journal.specs.Steps.{journal_of}
@@ -21,25 +17,6 @@ use Rattle.kdf_theory.specs.Legal.{any_answer, lone_note, note_of_act, note_of_o
 use Rattle.kdf_theory.specs.Next.{lone_dispatched}
 use Rattle.kdf_theory.specs.ByJournal.{lone_world, own}
 use Rattle.kdf_theory.specs.True.{truth}
-use Rattle.kdf_theory.specs.World.{hold_of, need_of}
-
--- ---- needs told as holds
-
-pub need_again : (need : Need) → need_of (hold_of need) ≡ need
-need_again (Group g) = refl
-need_again (Device d) = refl
-need_again (Pool kind) = refl
-
-pub free_need : (o : Option Need) → option_map hold_of o ≡ None → o ≡ None
-free_need None e = refl
-free_need (Some need) e = cc
-
-some_same : (a b : Hold) → Some a ≡ Some b → a ≡ b
-some_same a b e = cc
-
-pub held_need : (o : Option Need) (by : Hold) → option_map hold_of o ≡ Some by → o ≡ Some (need_of by)
-held_need None by e = cc
-held_need (Some need) by e = ap Some (sym (need_again need) ∙ ap need_of (some_same (hold_of need) by e))
 
 -- ---- legal and true
 

@@ -9,8 +9,8 @@ use Rattle.kdf_syllable.specs.declared.order.Order.{Order}
 use Rattle.kdf_journal.specs.declared.failure.Failure.TheVariants.{Claim}
 use Rattle.kdf_journal.specs.declared.kind.Kind.TheVariants.{Mt}
 use Rattle.kdf_processor.specs.declared.registers.Registers.{Registers}
-use Rattle.kdf_processor.specs.declared.step.Need.{Need}
-use Rattle.kdf_processor.specs.declared.step.Need.TheVariants.{Group, Device, Pool}
+use Rattle.kdf_journal.specs.declared.need.Need.{Need}
+use Rattle.kdf_journal.specs.declared.need.Need.TheVariants.{Group, Device, Pool}
 use Rattle.kdf_transfer.specs.declared.test.Test.TheVariants.{Flag, Start, Mark}
 use Rattle.kdf_transfer.specs.Devices.{is_kind}
 use Rattle.kdf_processor.specs.Claims.{claim, is_claimed}

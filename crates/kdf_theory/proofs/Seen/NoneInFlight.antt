@@ -4,8 +4,8 @@ use Rattle.std.proofs.Common.{ap, ◌∙◌, subst, ⊎_elim, arith}
 use Rattle.std.specs.List.{filter, list_any, range_with_len}
 use Rattle.std.proofs.lemmas.Bool.{or_parts, cases_Bool, cases_eq, false≢true}
 use Rattle.kdf_transfer.specs.AtOnce.{kind_of}
-use Rattle.kdf_processor.specs.declared.step.Need.{Need}
-use Rattle.kdf_processor.specs.declared.step.Need.TheVariants.{Device}
+use Rattle.kdf_journal.specs.declared.need.Need.{Need}
+use Rattle.kdf_journal.specs.declared.need.Need.TheVariants.{Device}
 use Rattle.kdf_processor.specs.Effect.{Question, Effect, Failing, Ending}
 use Rattle.kdf_processor.specs.Frame.{HidesNone}
 use Rattle.kdf_processor.specs.Lone.{is_live}

@@ -9,8 +9,8 @@ use Rattle.kdf_transfer.specs.AtOnce.{has_area}
 use Rattle.kdf_transfer.specs.Devices.{DeviceProgress}
 use Rattle.kdf_transfer.specs.declared.order.TransferOrder.{TransferOrder}
 use Rattle.kdf_processor.specs.declared.registers.Registers.{Registers}
-use Rattle.kdf_processor.specs.declared.step.Need.{Need}
-use Rattle.kdf_processor.specs.declared.step.Need.TheVariants.{Group, Device}
+use Rattle.kdf_journal.specs.declared.need.Need.{Need}
+use Rattle.kdf_journal.specs.declared.need.Need.TheVariants.{Group, Device}
 use Rattle.kdf_processor.specs.Effect.{Question, Effect, Starting}
 use Rattle.kdf_processor.specs.Frame.{Leaves, HidesNone}
 use Rattle.kdf_processor.specs.Needs.{group_of, fetch_needs, effect_needs, needs, next_effect}

@@ -6,7 +6,7 @@ use Rattle.std.proofs.lemmas.Bool.{or_parts, and_from, cases_Bool, cases_lt, fal
 use Rattle.std.proofs.lemmas.List.{ext_get_or, get_or_past}
 use Rattle.std.proofs.lemmas.List.FromFn.{length-map-range_with_len, get_or-map-range_with_len}
 use Rattle.kdf_transfer.specs.Devices.{DeviceProgress, new_progress}
-use Rattle.kdf_processor.specs.declared.step.Need.TheVariants.{Group, Device}
+use Rattle.kdf_journal.specs.declared.need.Need.TheVariants.{Group, Device}
 use Rattle.kdf_processor.specs.Effect.{Question, Effect}
 use Rattle.kdf_processor.specs.Frame.{Agrees, Leaves, HidesNone}
 use Rattle.kdf_processor.specs.Needs.{group_of, effect_needs}

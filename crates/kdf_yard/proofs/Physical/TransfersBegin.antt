@@ -7,7 +7,7 @@ use Rattle.std.proofs.lemmas.Bool.{cases_Bool}
 use Rattle.kdf_lockout.specs.Groups.{Cells, is_out}
 use Rattle.kdf_transfer.specs.declared.order.TransferOrder.{TransferOrder}
 use Rattle.kdf_transfer.specs.AtOnce.{has_area, IsArea}
-use Rattle.kdf_processor.specs.declared.step.Need.TheVariants.{Group, Device}
+use Rattle.kdf_journal.specs.declared.need.Need.TheVariants.{Group, Device}
 use Rattle.kdf_processor.specs.View.{groups_of, order_groups}
 use Rattle.kdf_processor.specs.View.{View, first_pending}
 use Rattle.kdf_processor.proofs.Pending.{none_out_behind}

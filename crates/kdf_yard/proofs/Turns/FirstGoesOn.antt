@@ -6,7 +6,7 @@ use Rattle.std.proofs.Common.{⊎_elim, arith}
 use Rattle.std.proofs.lemmas.Bool.{cases_lt, eq-eqb, eqb-true, false≢true}
 use Rattle.std.proofs.lemmas.List.{length-map}
 use Rattle.kdf_journal.specs.Counts.{slot_numbers}
-use Rattle.kdf_processor.specs.declared.step.Need.{Need}
+use Rattle.kdf_journal.specs.declared.need.Need.{Need}
 use Rattle.kdf_processor.proofs.Finding.{found_behind, found_here, found_none}
 use Rattle.kdf_yard.specs.declared.program.Program.{Program}
 use Rattle.kdf_yard.specs.Fields.Going.{first_going, goes_at, if_goes, or_else, place_of}

@@ -6,7 +6,7 @@ use Rattle.std.proofs.lemmas.Bool.{cases_eq}
 use Rattle.std.proofs.lemmas.List.{get_or-set_same, get_or-set_other, length-set}
 use Rattle.kdf_lockout.specs.Groups.{lent_groups, touched}
 use Rattle.kdf_transfer.specs.AtOnce.{has_area}
-use Rattle.kdf_processor.specs.declared.step.Need.{Need}
+use Rattle.kdf_journal.specs.declared.need.Need.{Need}
 use Rattle.kdf_processor.specs.declared.registers.Registers.{Registers}
 use Rattle.kdf_processor.specs.Effect.{Effect, Keeping, Returning, Starting}
 use Rattle.kdf_processor.specs.Lone.{is_live}

@@ -12,7 +12,7 @@ use Rattle.kdf_transfer.specs.AtOnce.{kind_of, has_area}
 use Rattle.kdf_transfer.proofs.Numbers.{number_past}
 use Rattle.kdf_theory.specs.Seen.{begun}
 use Rattle.kdf_transfer.specs.ByNumber.{device_count}
-use Rattle.kdf_processor.specs.declared.step.Need.TheVariants.{Group, Device, Pool}
+use Rattle.kdf_journal.specs.declared.need.Need.TheVariants.{Group, Device, Pool}
 use Rattle.kdf_processor.specs.declared.registers.Registers.{Registers}
 use Rattle.kdf_processor.specs.declared.spooled.Spooled.{Spooled}
 use Rattle.kdf_processor.specs.Claims.{can_take, kind_at, least_pooled}

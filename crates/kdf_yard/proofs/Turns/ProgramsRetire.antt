@@ -5,7 +5,7 @@ use Rattle.std.proofs.Common.{None, is_none, is_some, cond, eqb, refl, sym, ap, 
 use Rattle.std.proofs.lemmas.Bool.{and_from, and_parts, cases_Bool, cases_eq, cases_lt, eq-eqb, or_right}
 use Rattle.std.proofs.lemmas.List.{get_or_default, get_or-set_other, get_or-set_same, get_or_past, length-map, length-set, set-get_or, set-set}
 use Rattle.std.proofs.lemmas.List.Folds.{list_any_at, list_any_none}
-use Rattle.kdf_processor.specs.declared.step.Need.TheVariants.{Device}
+use Rattle.kdf_journal.specs.declared.need.Need.TheVariants.{Device}
 use Rattle.kdf_processor.specs.Lone.{is_live}
 use Rattle.kdf_processor.specs.View.{View, first_pending}
 use Rattle.kdf_transfer.specs.Devices.{Fixture, blank_fixture, new_progress}

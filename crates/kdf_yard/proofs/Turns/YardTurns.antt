@@ -11,8 +11,8 @@ use Rattle.kdf_places.specs.Shared.{Shared, shared_in}
 use Rattle.kdf_places.specs.Spots.{AreDry, spot_of}
 use Rattle.kdf_places.specs.declared.place.Place.{Place}
 use Rattle.kdf_processor.specs.declared.registers.Life.TheVariants as life
-use Rattle.kdf_processor.specs.declared.step.Need.{Need}
-use Rattle.kdf_processor.specs.declared.step.Need.TheVariants.{Group, Device, Pool}
+use Rattle.kdf_journal.specs.declared.need.Need.{Need}
+use Rattle.kdf_journal.specs.declared.need.Need.TheVariants.{Group, Device, Pool}
 use Rattle.kdf_processor.specs.declared.step.Step.{Step}
 use Rattle.kdf_processor.specs.Lone.{is_live}
 use Rattle.kdf_transfer.proofs.Numbers.{limit_is}

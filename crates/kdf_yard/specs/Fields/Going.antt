@@ -4,8 +4,8 @@ use Rattle.std.specs.Prelude.{slice_index_or}
 use Rattle.std.specs.List.{list_any, range_with_len}
 use Rattle.kdf_lockout.specs.Groups.{is_out}
 use Rattle.kdf_processor.specs.Lone.{is_live}
-use Rattle.kdf_processor.specs.declared.step.Need.{Need}
-use Rattle.kdf_processor.specs.declared.step.Need.TheVariants.{Group, Device, Pool}
+use Rattle.kdf_journal.specs.declared.need.Need.{Need}
+use Rattle.kdf_journal.specs.declared.need.Need.TheVariants.{Group, Device, Pool}
 use Rattle.kdf_yard.specs.declared.program.Program.{Program}
 use Rattle.kdf_yard.specs.Fields.Parts.{Reach, Seat, is_lent_by}
 use Rattle.kdf_places.specs.Shared.{Shared, is_busy_in}

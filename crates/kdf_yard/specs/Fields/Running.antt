@@ -4,7 +4,7 @@ use Rattle.std.specs.Prelude.{◌==◌, if◌then◌else◌}
 use Rattle.kdf_relocate.specs.declared.window.Window.{Window}
 use Rattle.kdf_transfer.specs.AtOnce.{written}
 use Rattle.kdf_transfer.specs.InFlight.{total_of, ended_progress}
-use Rattle.kdf_processor.specs.declared.step.Need.{Need}
+use Rattle.kdf_journal.specs.declared.need.Need.{Need}
 use Rattle.kdf_processor.specs.Effect.{Question}
 use Rattle.kdf_processor.specs.Lone.{is_live}
 use Rattle.kdf_processor.specs.Needs.{needs}

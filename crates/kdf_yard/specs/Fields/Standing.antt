@@ -4,7 +4,7 @@ use Rattle.kdf_lockout.specs.Groups.{Cells}
 use Rattle.kdf_places.specs.Shared.{Shared, shared_in}
 use Rattle.kdf_places.specs.Spots.{AreDry}
 use Rattle.kdf_places.specs.declared.place.Place.{Place}
-use Rattle.kdf_processor.specs.declared.step.Need.{Need}
+use Rattle.kdf_journal.specs.declared.need.Need.{Need}
 use Rattle.kdf_relocate.specs.Windows.{windows_from}
 use Rattle.kdf_relocate.specs.declared.window.Window.{Window}
 use Rattle.kdf_transfer.specs.Slots.{Slot}

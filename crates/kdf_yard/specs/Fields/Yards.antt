@@ -3,7 +3,7 @@ use Rattle.std.specs.Prelude.{ℕ, ◌<◌, Bool, List, length, Option}
 use Rattle.std.specs.List.{list_any}
 use Rattle.kdf_processor.specs.Lone.{is_live}
 use Rattle.kdf_processor.specs.declared.registers.Registers.{Registers}
-use Rattle.kdf_processor.specs.declared.step.Need.{Need}
+use Rattle.kdf_journal.specs.declared.need.Need.{Need}
 use Rattle.kdf_processor.specs.declared.step.Step.{Step}
 use Rattle.kdf_journal.specs.declared.entry.Entry.{Entry}
 use Rattle.kdf_yard.specs.declared.moment.Moment.{Moment}

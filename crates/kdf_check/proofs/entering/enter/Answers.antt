@@ -4,16 +4,15 @@ use Rattle.kdf_journal.specs.Steps.{hold_entry}
 use Rattle.kdf_journal.specs.declared.entry.Entry.{Entry}
 use Rattle.kdf_journal.specs.declared.entry.Entry.TheVariants.{Ran, Fail, Ended}
 use Rattle.kdf_journal.specs.Joined.{pushed}
-use Rattle.kdf_processor.specs.declared.step.Need.{Need}
-use Rattle.kdf_processor.specs.declared.step.Need.TheVariants.{Group, Device, Pool}
+use Rattle.kdf_journal.specs.declared.need.Need.{Need}
+use Rattle.kdf_journal.specs.declared.need.Need.TheVariants.{Group, Device, Pool}
 use Rattle.kdf_theory.specs.InARow.{ran_on}
 use Rattle.kdf_theory.proofs.Course.OrdersInARow.{calls-ran_on, last-ran_on, moves-ran_on}
-use Rattle.kdf_theory.specs.World.{hold_of}
 use Rattle.kdf_check.specs.Entered.{with_entry}
 use Rattle.kdf_check.proofs.entering.enter.Goals as goal
 
 -- a hold counts a call and no word
-held_counts : (p : ℕ) (need : Need) → (calls_in (hold_entry p (hold_of need)) ≡ 1) × (moves_in (hold_entry p (hold_of need)) ≡ 0)
+held_counts : (p : ℕ) (need : Need) → (calls_in (hold_entry p need) ≡ 1) × (moves_in (hold_entry p need) ≡ 0)
 held_counts p (Group group) = (refl, refl)
 held_counts p (Device d) = (refl, refl)
 held_counts p (Pool kind) = (refl, refl)

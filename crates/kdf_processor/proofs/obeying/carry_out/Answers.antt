@@ -1,6 +1,6 @@
 use Rattle.std.proofs.Common.{subst, sym, refl, [], ◌≡◌, None, map}
 use Rattle.kdf_processor.specs.declared.plan.Plan.{Plan}
-use Rattle.kdf_processor.specs.declared.step.Need.TheVariants.{Group}
+use Rattle.kdf_journal.specs.declared.need.Need.TheVariants.{Group}
 use Rattle.kdf_processor.specs.Needs.{effect_needs, group_of}
 use Rattle.kdf_processor.specs.Outcome.{CameTo}
 use Rattle.kdf_processor.specs.Plan.{planned, done_plan, IsSound, HasOperands}

@@ -9,7 +9,7 @@ use Rattle.kdf_processor.specs.View.{View}
 use Rattle.kdf_processor.specs.declared.planning.Planned.{Planned}
 use Rattle.kdf_processor.specs.declared.planning.Planned.TheVariants as way
 use Rattle.kdf_processor.specs.declared.registers.Registers.{Registers}
-use Rattle.kdf_processor.specs.declared.step.Need.{Need}
+use Rattle.kdf_journal.specs.declared.need.Need.{Need}
 use Rattle.kdf_processor.proofs.Words.{change_word, kind_word, label_word}
 use Rattle.kdf_processor.proofs.planning.asks_ahead.Goals as goal
 

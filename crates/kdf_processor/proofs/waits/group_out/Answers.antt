@@ -1,6 +1,6 @@
 use Rattle.std.proofs.Common.{ap, sym, ◌∙◌}
 use Rattle.std.specs.Option.{option_map}
-use Rattle.kdf_processor.specs.declared.step.Need.TheVariants.{Group}
+use Rattle.kdf_journal.specs.declared.need.Need.TheVariants.{Group}
 use Rattle.kdf_processor.specs.View.{groups_of}
 use Rattle.kdf_processor.proofs.Pending.{mapped, pending_groups}
 use Rattle.kdf_processor.proofs.waits.group_out.Goals as goal

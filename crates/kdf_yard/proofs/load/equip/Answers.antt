@@ -1,7 +1,7 @@
 use Rattle.std.proofs.Common.{◌≡◌, ◌+◌, ◌≤◌, length, map, true, Option, None, sym, ap, ◌∙◌, subst}
 use Rattle.std.specs.List.{All}
 use Rattle.kdf_relocate.specs.Windows.{have_windows, windows_from}
-use Rattle.kdf_processor.specs.declared.step.Need.{Need}
+use Rattle.kdf_journal.specs.declared.need.Need.{Need}
 use Rattle.kdf_yard.specs.declared.slot.Loaded.{Loaded}
 use Rattle.kdf_yard.specs.Fields.Filled.{first_seat, idle_spot, loaded, sizes_of, with_images, zero_cells}
 use Rattle.kdf_yard.specs.Fields.Parts.{window_at}

@@ -1,5 +1,5 @@
 use Rattle.std.proofs.Common.{Option, None}
-use Rattle.kdf_processor.specs.declared.step.Need.{Need}
+use Rattle.kdf_journal.specs.declared.need.Need.{Need}
 use Rattle.kdf_yard.specs.declared.program.Program.{Program}
 use Rattle.kdf_yard.specs.declared.slot.Loaded.{Loaded}
 use Rattle.kdf_yard.specs.Fields.Filled.{first_seat, loaded}

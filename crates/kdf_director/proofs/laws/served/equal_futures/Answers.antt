@@ -1,7 +1,7 @@
 use Rattle.std.proofs.Common.{◌≡◌, ℕ, ◌+◌, List, ◌++◌, Option, sym, ◌∙◌, ap, ap₂}
 use Rattle.std.proofs.Math.Path.{fun_ext}
+use Rattle.kdf_journal.specs.declared.need.Need.{Need}
 use Rattle.kdf_journal.specs.declared.entry.Entry.{Entry}
-use Rattle.kdf_journal.specs.Counts.{Hold}
 use Rattle.kdf_journal.specs.Steps.{JournalStep, added}
 use Rattle.kdf_journal.proofs.Added.{answers-added, answers_by, clock-added, clock_by, hold_by, last_hold-added, moved_by, moved_if-added, pending-added}
 use Rattle.kdf_journal.proofs.Added.{pending_by, priorities-added, priorities_by, ran-added, ran_by}
@@ -17,7 +17,7 @@ returns-clause-step g c J K s alike = record {
   orders = λ p. ran-added p J s ∙ ap (λ (n : ℕ). n + ran_by p s) (alike.orders p) ∙ sym (ran-added p K s);
   answered = λ p. answers-added p J s ∙ ap (λ (vs : List ℕ). vs ++ answers_by p s) (alike.answered p) ∙ sym (answers-added p K s);
   ended = ended_added J K s alike.ended;
-  hold = λ p. last_hold-added p J s ∙ ap (λ (o : Option Hold). hold_by p o s) (alike.hold p) ∙ sym (last_hold-added p K s);
+  hold = λ p. last_hold-added p J s ∙ ap (λ (o : Option Need). hold_by p o s) (alike.hold p) ∙ sym (last_hold-added p K s);
   flying = λ d. pending-added d J s ∙ ap (λ (o : Option (ℕ × ℕ)). pending_by d o s) (alike.flying d) ∙ sym (pending-added d K s);
   called = λ d. moved_if-added d J s ∙ ap (λ (o : Option ℕ). moved_by d o s) (alike.called d) ∙ sym (moved_if-added d K s);
   lent = λ d. lent_added J K s alike.ended d (alike.lent d);
