@@ -7,19 +7,19 @@
 mod block;
 mod blocks;
 mod cards;
+mod cuts;
 mod end_message;
 pub mod examples;
 mod packed_cards;
 mod printed;
-mod printer;
-mod punch;
 mod reader;
 mod stack;
+mod writer;
 
 pub use block::Block;
 pub use cards::Cards;
+pub use cuts::{Cut, Lines, Uncut};
 pub use end_message::through_end;
-pub use printer::Printer;
-pub use punch::Punch;
 pub use reader::Reader;
 pub use stack::{CARD_LENGTH, Stack};
+pub use writer::{Printer, Punch, Writer};

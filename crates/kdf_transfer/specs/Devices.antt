@@ -77,14 +77,19 @@ room_of (Mt t) = t.room
 abbrev pub kind_in : Option Fixture → Option Kind
 kind_in fixture = option_map (λ (f : Fixture). f.kind) fixture
 
+-- two kinds are the same
+abbrev pub same_kind : Kind → Kind → Bool
+same_kind kind.Tr kind.Tr = true
+same_kind kind.Tp kind.Tp = true
+same_kind kind.Cr kind.Cr = true
+same_kind kind.Lp kind.Lp = true
+same_kind kind.Mt kind.Mt = true
+same_kind _ _ = false
+
 -- there is a kind, and it is this one
 abbrev pub is_kind : Kind → Option Kind → Bool
-is_kind kind.Tr (Some kind.Tr) = true
-is_kind kind.Tp (Some kind.Tp) = true
-is_kind kind.Cr (Some kind.Cr) = true
-is_kind kind.Lp (Some kind.Lp) = true
-is_kind kind.Mt (Some kind.Mt) = true
-is_kind _ _ = false
+is_kind wanted None = false
+is_kind wanted (Some kind) = same_kind wanted kind
 
 -- there is a device, and it is a tape with this label
 abbrev pub has_label : ℕ → Option Fixture → Bool
