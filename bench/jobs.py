@@ -60,8 +60,8 @@ class Transfers(NamedTuple):
         return slot(0, STORE_AND_AREA, self.deck, self.device + shown)
 
     def orders(self, many: int) -> int:
-        """How many orders it obeys for so many transfers. Six come before the loop."""
-        return 6 + 2 * many
+        """How many orders it obeys for so many transfers. Seven come before the loop, the first a jump."""
+        return 7 + 2 * many
 
 
 # So many texts fit on a tape.
