@@ -1,5 +1,5 @@
 """The jobs of the benches."""
-from typing import Callable, Iterable
+from typing import Callable, Iterable, NamedTuple
 
 # A job of so many orders, lines, bytes or whatever else is counted.
 Made = Callable[[int], bytes]
@@ -16,8 +16,8 @@ LOOPS = {
 }
 JUMP, ADDS = list(LOOPS.values())[:2]
 
-# So many words has the store of a loop.
-STORE = 32
+# So many words has the store of a loop, and that of a loop with transfers, whose area of 15 words is in the second group.
+STORE, STORE_AND_AREA = 32, 64
 
 
 def slot(p: int, store: int, deck: bytes, devices: bytes = b"") -> bytes:
@@ -38,6 +38,41 @@ def obeying(*slots: bytes) -> Made:
 def loop(deck: bytes, shown: bytes = b"") -> Made:
     """A job of this loop for so many orders."""
     return obeying(slot(0, STORE, deck, shown))
+
+
+class Transfers(NamedTuple):
+    """A loop of a transfer and a jump: its deck, the number of its device, and what a job says of that."""
+
+    deck: bytes
+    number: int
+    device: bytes
+
+    def at_once(self, many: int, shown: bytes = b"") -> bytes:
+        """A job of so many transfers, for `alone 0`."""
+        return job([self.slot(shown)], b"ORDERS %d\n" % self.orders(many))
+
+    def in_turn(self, many: int) -> bytes:
+        """A job of so many transfers, each of which a line of the schedule ends."""
+        return job([self.slot()], b"ORDERS %d\n" % self.orders(0) + b"ORDERS 2\nEND %d\n" % self.number * many)
+
+    def slot(self, shown: bytes = b"") -> bytes:
+        """The lines of its slot."""
+        return slot(0, STORE_AND_AREA, self.deck, self.device + shown)
+
+    def orders(self, many: int) -> int:
+        """How many orders it obeys for so many transfers. Seven come before the loop, the first a jump."""
+        return 7 + 2 * many
+
+
+# So many texts fit on a tape.
+TEXTS = 30_000
+LOOP_OF = b"PROGRAM V0; V0=Q0/32/46; SET %d; SET 5; OUT; V0; =Q1; =C1; 1; %s1; J1; FINISH;\n"
+
+# The loops of transfers that are counted. bench/plain.c has their orders too.
+TRANSFERS = {
+    "`PREQq`, which reads 15 words, and a jump": Transfers(LOOP_OF % (2, b"PREQ"), 2, b"DEVICE 2 TR\n" + b"+%s|\n" % (b"ABCDEFG" * 17) * TEXTS),
+    "`LPQq`, which prints 15 words, and a jump": Transfers(LOOP_OF % (3, b"LPQ"), 3, b"DEVICE 3 LP\n"),
+}
 
 
 def following(line: bytes, *slots: bytes) -> Made:

@@ -2,7 +2,7 @@
 from typing import Any, Dict, Iterable, List, Sequence, Tuple
 
 from counting import shown
-from jobs import LOOPS
+from jobs import LOOPS, TRANSFERS
 
 Figures = Dict[str, float]
 
@@ -32,7 +32,7 @@ section. The last columns say how many times as long as it the program takes, wh
 
 In these rounds `run` obeyed {fastest} million jumps a second, and {slowest} million orders of the slowest loop.
 
-## Programs that share the machine
+{transfers}## Programs that share the machine
 
 `bench/sharing` counts, with `run` where nothing else is named:
 
@@ -91,11 +91,18 @@ def crossed(figures: Figures) -> str:
     return table(["one", *(f"`{it}`" for it in commands)], [[one, *(cells.get((one, it), "") for it in commands)] for one in ones])
 
 
-def loops(orders: Figures, plain: Figures) -> str:
-    """A table of what an order takes, and of how long the loops take beside the C program."""
+def loops(head: str, ones: Iterable[str], figures: Figures) -> str:
+    """A table of what one of these takes, and of how long it takes beside the C program."""
     columns = {"plain C": "plain C", "`alone 0`": "alone 0", "`run`": "run", "times as long, `alone 0`": "times as long, alone 0", "times as long, `run`": "times as long, run"}
-    figures, ones = {**orders, **plain}, dict.fromkeys(one for one, _, _ in parted(orders))
-    return table(["an order of this loop", *columns], [[one, *(f"{figures.get(f'{one}: {it}', '')}" for it in columns.values())] for one in ones])
+    return table([head, *columns], [[one, *(f"{figures.get(f'{one}: {it}', '')}" for it in columns.values())] for one in ones])
+
+
+def transfers(ones: Sequence[str], figures: Figures) -> str:
+    """What is said of loops of transfers, once they are counted."""
+    if not ones:
+        return ""
+    told = "A transfer is counted with the jump back to it. In `run` two lines of the schedule belong to it, and the block of a printer is written to the section."
+    return f"{told}\n\n{loops('a transfer of this loop', ones, figures)}\n\n"
 
 
 def goals(figures: Figures, most: Figures) -> str:
@@ -107,9 +114,11 @@ def goals(figures: Figures, most: Figures) -> str:
 
 def page(figures: Dict[str, Dict[str, Any]], most: Figures) -> str:
     """The page with these figures, and with these goals of peaks."""
-    speeds = [figures["plain"][f"{name}: millions a second"] for name in LOOPS]
+    speeds, beside = [figures["plain"][f"{name}: millions a second"] for name in LOOPS], {**figures["orders"], **figures["plain"]}
+    ones = list(dict.fromkeys(one for one, _, _ in parted(figures["orders"])))
     return PAGE.format(
-        orders=loops(figures["orders"], figures["plain"]), fastest=speeds[0], slowest=min(speeds), sharing=listed(figures["sharing"], "instructions"),
+        orders=loops("an order of this loop", [one for one in ones if one not in TRANSFERS], beside), fastest=speeds[0], slowest=min(speeds),
+        transfers=transfers([one for one in ones if one in TRANSFERS], beside), sharing=listed(figures["sharing"], "instructions"),
         decks=listed(figures["decks"], "instructions"), commands=crossed(figures["commands"]), peaks=listed(figures["peaks"], "bytes"),
         goals=goals(figures["peaks"], most), **figures["measured"],
     )
