@@ -73,8 +73,9 @@ pub fn fetch_from<P: Port>(port: &P, held: Buffer, at: u16) -> Option<u32>
     requires high { at < held.first + 6 }
     ensures { IfSome result (λ bits. IsFetchedAt (P.shows port.now) at (spelt_of bits)) }
 {
-    match at - held.first {
-        0..4 => Some(bits_within(held.word, (at - held.first) as u8)),
+    let place = u32::from(at) - held.first;
+    match place {
+        0..4 => Some(bits_within(held.word, place as u8)),
         4 => together(fetch_from_fifth(port, at, held.word)),
         _ => together(fetch_from_sixth(port, at, syllable(held.word, 5))),
     }
