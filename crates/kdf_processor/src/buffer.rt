@@ -22,7 +22,8 @@ const NOWHERE: u32 = 65_536;
 /// No word.
 #[inline(always)]
 pub fn no_word() -> Buffer
-    ensures { (v : View) → Agrees v result }
+    ensures nowhere { result.first ≡ 65536 }
+    ensures agrees { (v : View) → Agrees v result }
 {
     Buffer {
         first: NOWHERE,
@@ -32,9 +33,9 @@ pub fn no_word() -> Buffer
 
 /// Whether a word is at hand, and a syllable is of it.
 #[inline(always)]
-fn is_at_hand(held: Buffer, at: u16) -> bool
-    requires { held.first ≤ 65536 }
-    ensures { result ≡ true → Has held at }
+fn is_at_hand(held: &Buffer, at: u16) -> bool
+    requires { held.now.first ≤ 65536 }
+    ensures { result ≡ true → Has held.now at }
 {
     u32::from(at).wrapping_sub(held.first) < 6
 }
@@ -57,16 +58,22 @@ fn read_word<P: Port>(port: &P, at: u16) -> Option<Buffer>
     }
 }
 
-/// The word of a syllable: the one at hand, if it is of that, or else the one that is read.
+/// Brings the word of a syllable to hand, unless it is there. Answers whether it is: it isn't outside the store, and its group isn't out.
 #[inline(always)]
-pub fn word_of<P: Port>(port: &P, held: Buffer, at: u16) -> Option<Buffer>
-    requires { Agrees (P.shows port.now) held }
-    ensures { IfSome result (λ b. IsHeld (P.shows port.now) b × Has b at) }
+pub fn bring<P: Port>(port: &P, held: &mut Buffer, at: u16) -> bool
+    requires { Agrees (P.shows port.now) held.old }
+    ensures agrees { Agrees (P.shows port.now) held.new }
+    ensures its { result ≡ true → IsHeld (P.shows port.now) held.new × Has held.new at }
 {
     if is_at_hand(held, at) {
-        Some(held)
-    } else {
-        read_word(port, at)
+        return true;
+    }
+    match read_word(port, at) {
+        Some(word) => {
+            *held = word;
+            true
+        }
+        None => false,
     }
 }
 

@@ -18,7 +18,7 @@ ghost use Rattle.kdf_processor.specs.Plan.{IsHalf, try_decoded, try_order};
 ghost use Rattle.kdf_processor.specs.Table.{fetches, guarded, keeps};
 
 use crate::access::{direct_access, indirect_access};
-use crate::buffer::{word_of, write_word};
+use crate::buffer::{bring, write_word};
 use crate::copies::copy;
 use crate::counting::count;
 use crate::exit::exit;
@@ -596,27 +596,22 @@ fn obey_bits<P: Reserve>(
     obey_spelt(registers, port, held, first, second, (bits % 256) as u8)
 }
 
-/// An order at a syllable of this word.
+/// An order at a syllable of the word at hand.
 #[inline(always)]
-fn obey_from<P: Reserve>(
-    registers: &mut Registers,
-    port: &mut P,
-    held: &mut Buffer,
-    word: Buffer,
-) -> Option<()>
+fn obey_from<P: Reserve>(registers: &mut Registers, port: &mut P, held: &mut Buffer) -> Option<()>
     requires ran { registers.old.ran < u32.MAX }
     requires small { (act : Act) → IsSmall act → P.room port.old act }
     requires agrees { Agrees (P.shows port.old) held.old }
-    requires held { IsHeld (P.shows port.old) word }
-    requires low { word.first ≤ registers.old.at }
-    requires high { registers.old.at < word.first + 6 }
+    requires held { IsHeld (P.shows port.old) held.old }
+    requires low { held.old.first ≤ registers.old.at }
+    requires high { registers.old.at < held.old.first + 6 }
     ensures obeyed { IfSome result (λ _. CameTo P.acts (outcome (P.shows port.old) registers.old)
         port.old port.new registers.new Step.Done) }
     ensures left { IfNone result ((registers.new ≡ registers.old) × (port.new ≡ port.old)) }
     ensures agrees { Agrees (P.shows port.new) held.new }
     ensures wrote { IfSome result (λ _. IsWritten P.acts port.old port.new) }
 {
-    match fetch_from(port, word, registers.at) {
+    match fetch_from(port, held, registers.at) {
         Some(bits) => obey_bits(registers, port, held, bits),
         None => None,
     }
@@ -639,7 +634,8 @@ pub fn obey_quickly<P: Reserve>(
     ensures agrees { Agrees (P.shows port.new) held.new }
     ensures wrote { IfSome result (λ _. IsWritten P.acts port.old port.new) }
 {
-    let word = word_of(port, *held, registers.at)?;
-    *held = word;
-    obey_from(registers, port, held, word)
+    if !bring(port, held, registers.at) {
+        return None;
+    }
+    obey_from(registers, port, held)
 }

@@ -99,27 +99,31 @@ fn obey_quiet<S: Seek>(
     let last = first + most;
     let mut held = no_word();
     loop {
-        let before = registers.ran;
         match obey_at_hand(registers, turn, &mut held) {
             Some(()) => {
                 if registers.ran == last || is_at::<S>(place, registers) {
-                    return (before - first, Ok((Step::Done, Remark::Quiet)));
+                    return (registers.ran - first - 1, Ok((Step::Done, Remark::Quiet)));
                 }
             }
-            None => match obey_next(registers, turn, &mut held) {
-                Ok(Step::Done) => {
-                    if registers.ran == last || !turn.is_quiet() || is_at::<S>(place, registers) {
-                        return (before - first, Ok((Step::Done, turn.note())));
+            None => {
+                let done = registers.ran - first;
+                match obey_next(registers, turn, &mut held) {
+                    Ok(Step::Done) => {
+                        if registers.ran == last || !turn.is_quiet() || is_at::<S>(place, registers)
+                        {
+                            return (done, Ok((Step::Done, turn.note())));
+                        }
                     }
+                    Ok(step) => return (done, Ok((step, turn.note()))),
+                    Err(error) => return (done, Err(error)),
                 }
-                Ok(step) => return (before - first, Ok((step, turn.note()))),
-                Err(error) => return (before - first, Err(error)),
-            },
+            }
         }
     }
 }
 
 /// Tries orders of a program in its slot at a moment, as `obey_quiet` does.
+#[inline(always)]
 fn try_next<S: Seek>(
     stand: &Stand<'_>,
     moment: Moment,
@@ -196,6 +200,7 @@ fn settle(alloc: Global, program: &mut Program, places: &mut Vec<Place>)
 
 /// Tries orders of a program at a moment over what is shared, as `obey_quiet` does, and where the last ended it, takes
 /// back what it had from the pool.
+#[inline(always)]
 pub(crate) fn run<S: Seek>(
     stand: &Stand<'_>,
     moment: Moment,

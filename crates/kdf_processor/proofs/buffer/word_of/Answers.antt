@@ -1,3 +1,0 @@
-use Rattle.std.proofs.Common.{arith}
-use Rattle.kdf_processor.proofs.buffer.word_of.Goals as goal
-
