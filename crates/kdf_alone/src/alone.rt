@@ -17,7 +17,7 @@ use crate::lone_port::LonePort;
 use crate::obeying::obey_next;
 use kdf_job::SlotJob;
 use kdf_place::Image;
-use kdf_processor::{Buffer, Life, Port, Registers, Spooled, Step};
+use kdf_processor::{Buffer, Life, Port, Registers, Spooled, Step, no_word};
 use kdf_transfer::Device;
 use kdf_word::Word;
 use std::alloc::{AllocError, Global};
@@ -66,7 +66,7 @@ impl Alone {
         ensures step { IfOk result (λ s. s ≡ (next_of self.old (given_by answers.now self.old)).step) }
         ensures err { OnErr result (self.new ≡ self.old) }
     {
-        let mut held = None;
+        let mut held = no_word();
         self.order_buffered(answers, &mut held)
     }
 
@@ -75,7 +75,7 @@ impl Alone {
     fn order_buffered(
         &mut self,
         answers: &[u64],
-        held: &mut Option<Buffer>,
+        held: &mut Buffer,
     ) -> Result<Step, AllocError>
         requires live { is_live self.old.registers.state ≡ true }
         requires ran { self.old.registers.ran < u32.MAX }
@@ -97,7 +97,7 @@ impl Alone {
         if !self.is_live() {
             return Ok(());
         }
-        let mut held = None;
+        let mut held = no_word();
         for _i in 0..n {
             if let Step::Fails(_) | Step::Ends = self.order_buffered(answers, &mut held)? {
                 return Ok(());

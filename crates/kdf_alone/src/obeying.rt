@@ -13,7 +13,7 @@ use std::alloc::AllocError;
 pub fn obey_next(
     registers: &mut Registers,
     bench: &mut LonePort,
-    held: &mut Option<Buffer>,
+    held: &mut Buffer,
     answer: u64,
 ) -> Result<Step, AllocError>
     requires live { registers.old.state ≡ Life.Live }

@@ -10,7 +10,7 @@ use crate::check_port::CheckPort;
 use crate::table::Table;
 use kdf_alone::LonePort;
 use kdf_journal::{Entry, Journal};
-use kdf_processor::{Buffer, Life, Registers, Step, obey_at_once, obey_in_general};
+use kdf_processor::{Buffer, Life, Registers, Step, no_word, obey_at_once, obey_in_general};
 use kdf_word::Word;
 use std::alloc::AllocError;
 
@@ -19,7 +19,7 @@ use std::alloc::AllocError;
 fn obey_at_hand(
     registers: &mut Registers,
     desk: &mut CheckPort<'_>,
-    held: &mut Option<Buffer>,
+    held: &mut Buffer,
 ) -> Option<()>
     requires ran { registers.old.ran < u32.MAX }
     requires asked { CanAsk desk.old.bench.now }
@@ -40,7 +40,7 @@ fn obey_at_hand(
 fn obey_next(
     registers: &mut Registers,
     desk: &mut CheckPort<'_>,
-    held: &mut Option<Buffer>,
+    held: &mut Buffer,
 ) -> Result<Step, AllocError>
     requires live { registers.old.state ≡ Life.Live }
     requires ran { registers.old.ran < u32.MAX }
@@ -81,7 +81,7 @@ fn obey_quiet(
     ensures same { SameDesk desk.old desk.new }
 {
     let mut done = 0;
-    let mut held = None;
+    let mut held = no_word();
     loop {
         match obey_at_hand(registers, desk, &mut held) {
             Some(()) => {

@@ -109,7 +109,8 @@ fn place_of_halt<S: Seek>(yard: &Yard, halt: Halt, i: usize) -> Option<u16>
 /// Obeys orders of program `i`, which is next, up to one of which something is noted, that is held, that ends it or
 /// after which calls stop, and at most so many. They are entered at once: while nothing is noted, no other program's
 /// turn comes. Answers how many calls that were, and what the last did. At Err those that were obeyed are entered,
-/// and the one that had no memory has changed nothing.
+/// and the one that had no memory has changed nothing. It is inlined, so that what the loop reads stays at hand.
+#[inline(always)]
 fn take_turns<F: Fn(u64) -> u64, S: Seek>(
     yard: &mut Yard,
     journal: &mut Journal,
@@ -175,6 +176,7 @@ fn wait(yard: &Yard, journal: &mut Journal, most: u32) -> (u32, Progress)
 /// Some of these calls, one at least: the orders of the program that is next, as far as it stays next and up to one
 /// after which they stop, or all, where none can go on. Answers how many, and what the last did. At Err some are
 /// made, and the one that had no memory has changed nothing.
+#[inline(always)]
 pub(crate) fn advance<F: Fn(u64) -> u64, S: Seek>(
     yard: &mut Yard,
     journal: &mut Journal,

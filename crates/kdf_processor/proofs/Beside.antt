@@ -1,5 +1,5 @@
 -- A word that is written leaves the others as they can be read.
-use Rattle.std.proofs.Common.{◌≡◌, ◌≢◌, ℕ, ◌<◌, false, Option, None, Some, refl, sym, ap, ◌∙◌, subst}
+use Rattle.std.proofs.Common.{◌≡◌, ◌≢◌, ℕ, ◌<◌, false, refl, sym, ap, ◌∙◌, subst}
 use Rattle.std.proofs.lemmas.List.{get_or-set_other}
 use Rattle.kdf_processor.specs.Buffered.{Agrees, IsHeld, IsThere}
 use Rattle.kdf_processor.specs.Effect.{Question, Writes}
@@ -26,13 +26,16 @@ stock_beside answer answer' k k' a w b x is ne there =
     there_by (by_itself answer k) (by_itself answer' k') b x (ap (λ (z : Stock). z.claims.size) is) refl (word_kept k k' a w b is ne) there
 
 -- what is at hand agrees with what a program has by itself, whatever is answered
-pub agrees_with : (answer answer' : Question → ℕ) (k k' : Stock) (held : Option Buffer) → k' ≡ k → Agrees (by_itself answer k) held
+pub agrees_with : (answer answer' : Question → ℕ) (k k' : Stock) (held : Buffer) → k' ≡ k → Agrees (by_itself answer k) held
     → Agrees (by_itself answer' k') held
-agrees_with answer answer' k k' None same agrees = tt
-agrees_with answer answer' k k' (Some b) same agrees =
-    subst (λ z. IsHeld (by_itself answer' z) b) (sym same)
+agrees_with answer answer' k k' b same agrees =
+    subst (λ z. Agrees (by_itself answer' z) b) (sym same)
     (record {
-      least = agrees.least;
-      whole = agrees.whole;
-      there = record { inside = agrees.there.inside; here = refl; same = agrees.there.same };
+      low = agrees.low;
+      held = λ less.
+          record {
+            least = (agrees.held less).least;
+            whole = (agrees.held less).whole;
+            there = record { inside = (agrees.held less).there.inside; here = refl; same = (agrees.held less).there.same };
+          };
     })

@@ -1,6 +1,7 @@
 -- A word that is kept while syllables are fetched from it.
-use Rattle.std.specs.Prelude.{◌≡◌, ℕ, ◌+◌, ◌/◌, ◌%◌, ◌<◌, ◌≤◌, false, Option, Some, None}
+use Rattle.std.specs.Prelude.{◌≡◌, ◌⊎◌, ℕ, ◌+◌, ◌/◌, ◌%◌, ◌<◌, ◌≤◌, false}
 use Rattle.kdf_processor.specs.declared.buffer.Buffer.{Buffer}
+use Rattle.kdf_processor.specs.Effect.{Act, Writes}
 use Rattle.kdf_processor.specs.Needs.{group_of}
 use Rattle.kdf_processor.specs.View.{View}
 
@@ -17,20 +18,14 @@ pub record IsHeld (v : View) (b : Buffer) : Type 0 where
   pub there : IsThere v (b.first / 6) b.word
 
 -- what is at hand, if anything is, is as it stands in the store
-abbrev pub Agrees : View → Option Buffer → Type 0
-Agrees v None = Unit {0}
-Agrees v (Some b) = IsHeld v b
+pub record Agrees (v : View) (b : Buffer) : Type 0 where
+  pub low : b.first ≤ 65536
+  pub held : b.first < 65536 → IsHeld v b
 
 -- a syllable is of this word
 abbrev pub Has : Buffer → ℕ → Type 0
 Has b at = (b.first ≤ at) × (at < b.first + 6)
 
--- a word is at hand, and a syllable is of it
-abbrev pub HasSyllable : Option Buffer → ℕ → Type 0
-HasSyllable None at = ⊥
-HasSyllable (Some b) at = Has b at
-
--- the word at hand, if there is one, is of the syllable numbers
-abbrev pub IsLow : Option Buffer → Type 0
-IsLow None = Unit {0}
-IsLow (Some b) = b.first < 49152
+-- a port is as it was, or one word of it was written
+abbrev pub IsWritten : {P : Type 0} → (acts : P → Act → P → Type 0) → P → P → Type 0
+IsWritten acts old new = (new ≡ old) ⊎ ((a : ℕ) × (w : ℕ) × acts old (Writes a w) new)

@@ -1,37 +1,49 @@
 //! The word that syllables are fetched from, kept while they are of one word.
-ghost use Rattle.std.specs.Prelude.{◌≡◌, ◌≢◌, ◌*◌, ◌<◌, false, true, Some, IfSome};
-ghost use Rattle.kdf_processor.specs.Buffered.{Agrees, Has, HasSyllable, IsLow};
+ghost use Rattle.std.specs.Prelude.{◌≡◌, ◌≢◌, ◌*◌, ◌<◌, ◌≤◌, false, true, IfSome};
+ghost use Rattle.kdf_processor.specs.Buffered.{Agrees, Has, IsHeld, IsWritten};
 ghost use Rattle.kdf_processor.specs.Effect.{Writes};
 ghost use Rattle.kdf_processor.specs.Needs.{group_of};
+ghost use Rattle.kdf_processor.specs.View.{View};
 
 use crate::fetch::SYLLABLES;
 use crate::{Port, Reserve};
 use kdf_word::Word;
 
-/// A word of the store, by the number of its first syllable.
+/// A word of the store, by the number of its first syllable, or no word: then that is a number that no syllable has.
 #[derive(Clone, Copy)]
 pub struct Buffer {
-    pub first: u16,
+    pub first: u32,
     pub word: Word,
+}
+
+/// The first syllable of no word.
+const NOWHERE: u32 = 65_536;
+
+/// No word.
+#[inline(always)]
+pub fn no_word() -> Buffer
+    ensures nowhere { result.first ≡ 65536 }
+    ensures agrees { (v : View) → Agrees v result }
+{
+    Buffer {
+        first: NOWHERE,
+        word: Word::default(),
+    }
 }
 
 /// Whether a word is at hand, and a syllable is of it.
 #[inline(always)]
-fn is_at_hand(held: &Option<Buffer>, at: u16) -> bool
-    requires { IsLow held.now }
-    ensures { result ≡ true → HasSyllable held.now at }
+fn is_at_hand(held: &Buffer, at: u16) -> bool
+    requires { held.now.first ≤ 65536 }
+    ensures { result ≡ true → Has held.now at }
 {
-    match held {
-        Some(word) => at.wrapping_sub(word.first) < 6,
-        None => false,
-    }
+    u32::from(at).wrapping_sub(held.first) < 6
 }
 
 /// The word of a syllable, unless it is outside the store or its group is out.
 #[inline(always)]
 fn read_word<P: Port>(port: &P, at: u16) -> Option<Buffer>
-    ensures agrees { Agrees (P.shows port.now) result }
-    ensures its { IfSome result (λ b. Has b at) }
+    ensures { IfSome result (λ b. IsHeld (P.shows port.now) b × Has b at) }
 {
     let address = at / 6;
     if at >= SYLLABLES || address >= port.size() {
@@ -39,42 +51,47 @@ fn read_word<P: Port>(port: &P, at: u16) -> Option<Buffer>
     }
     match port.read(address) {
         Ok(word) => Some(Buffer {
-            first: 6 * address,
+            first: 6 * u32::from(address),
             word,
         }),
         Err(_) => None,
     }
 }
 
-/// The word of a syllable: the one at hand, if it is of that, or else the one that is read.
+/// Brings the word of a syllable to hand, unless it is there. Answers whether it is: it isn't outside the store, and its group isn't out.
 #[inline(always)]
-pub fn word_of<P: Port>(port: &P, held: Option<Buffer>, at: u16) -> Option<Buffer>
-    requires { Agrees (P.shows port.now) held }
-    ensures agrees { Agrees (P.shows port.now) result }
-    ensures its { IfSome result (λ b. Has b at) }
+pub fn bring<P: Port>(port: &P, held: &mut Buffer, at: u16) -> bool
+    requires { Agrees (P.shows port.now) held.old }
+    ensures agrees { Agrees (P.shows port.now) held.new }
+    ensures its { result ≡ true → IsHeld (P.shows port.now) held.new × Has held.new at }
 {
-    if is_at_hand(&held, at) {
-        held
-    } else {
-        read_word(port, at)
+    if is_at_hand(held, at) {
+        return true;
+    }
+    match read_word(port, at) {
+        Some(word) => {
+            *held = word;
+            true
+        }
+        None => false,
     }
 }
 
 /// Lets go of the word at hand, if it is the one at this address.
 #[inline(always)]
-fn forget(held: &mut Option<Buffer>, address: u16)
-    ensures { IfSome held.new (λ b. (held.old ≡ Some b) × (b.first ≢ 6 * address)) }
+fn forget(held: &mut Buffer, address: u16)
+    requires { held.old.first ≤ 65536 }
+    ensures low { held.new.first ≤ 65536 }
+    ensures other { held.new.first < 65536 → (held.new ≡ held.old) × (held.new.first ≢ 6 * address) }
 {
-    if let Some(word) = *held {
-        if u32::from(word.first) == 6 * u32::from(address) {
-            *held = None;
-        }
+    if held.first == 6 * u32::from(address) {
+        *held = no_word();
     }
 }
 
 /// Writes a word whose group isn't out. If it is the one at hand, that is let go.
 #[inline(always)]
-pub fn write_word<P: Reserve>(port: &mut P, held: &mut Option<Buffer>, address: u16, word: Word)
+pub fn write_word<P: Reserve>(port: &mut P, held: &mut Buffer, address: u16, word: Word)
     requires inside { address < (P.shows port.old).claims.size }
     requires free { (P.shows port.old).is_out (group_of address) ≡ false }
     requires room { P.room port.old (Writes address word) }

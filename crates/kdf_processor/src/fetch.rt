@@ -67,14 +67,15 @@ pub fn fetch_order<P: Port>(port: &P, at: u16) -> Fetched
 
 /// The 24 bits that the order at a syllable of this word begins, or None where it is held up or there is none.
 #[inline(always)]
-pub fn fetch_from<P: Port>(port: &P, held: Buffer, at: u16) -> Option<u32>
-    requires held { IsHeld (P.shows port.now) held }
-    requires low { held.first ≤ at }
-    requires high { at < held.first + 6 }
+pub fn fetch_from<P: Port>(port: &P, held: &Buffer, at: u16) -> Option<u32>
+    requires held { IsHeld (P.shows port.now) held.now }
+    requires low { held.now.first ≤ at }
+    requires high { at < held.now.first + 6 }
     ensures { IfSome result (λ bits. IsFetchedAt (P.shows port.now) at (spelt_of bits)) }
 {
-    match at - held.first {
-        0..4 => Some(bits_within(held.word, (at - held.first) as u8)),
+    let place = u32::from(at) - held.first;
+    match place {
+        0..4 => Some(bits_within(held.word, place as u8)),
         4 => together(fetch_from_fifth(port, at, held.word)),
         _ => together(fetch_from_sixth(port, at, syllable(held.word, 5))),
     }

@@ -41,7 +41,7 @@ mod syllable_number;
 mod transfers;
 mod waits;
 
-pub use buffer::Buffer;
+pub use buffer::{Buffer, no_word};
 pub use fetch::{Fetched, fetch_order};
 pub use kdf_arith::Flags;
 pub use kdf_journal::{Failure, Need};

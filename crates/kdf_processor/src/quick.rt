@@ -10,7 +10,7 @@ ghost use Rattle.kdf_decode.specs.Decoding.{decoded_jump, decoded_one, decoded_t
 ghost use Rattle.kdf_syllable.specs.declared.order.Order.TheVariants as order;
 ghost use Rattle.kdf_syllable.specs.Spelling.{IsOrder, IsQ};
 ghost use Rattle.kdf_processor.specs.Ahead.{IsSmall};
-ghost use Rattle.kdf_processor.specs.Buffered.{Agrees, IsHeld};
+ghost use Rattle.kdf_processor.specs.Buffered.{Agrees, IsHeld, IsWritten};
 ghost use Rattle.kdf_processor.specs.Effect.{Act};
 ghost use Rattle.kdf_processor.specs.Fetch.{bytes_of};
 ghost use Rattle.kdf_processor.specs.Outcome.{CameTo, outcome, try_effect};
@@ -18,7 +18,7 @@ ghost use Rattle.kdf_processor.specs.Plan.{IsHalf, try_decoded, try_order};
 ghost use Rattle.kdf_processor.specs.Table.{fetches, guarded, keeps};
 
 use crate::access::{direct_access, indirect_access};
-use crate::buffer::{word_of, write_word};
+use crate::buffer::{bring, write_word};
 use crate::copies::copy;
 use crate::counting::count;
 use crate::exit::exit;
@@ -195,7 +195,7 @@ fn fetch<P: Port>(registers: &mut Registers, port: &P, access: Access) -> Option
 fn keep<P: Reserve>(
     registers: &mut Registers,
     port: &mut P,
-    held: &mut Option<Buffer>,
+    held: &mut Buffer,
     access: Access,
 ) -> Option<()>
     requires ran { registers.old.ran < u32.MAX }
@@ -209,6 +209,7 @@ fn keep<P: Reserve>(
         port.old port.new registers.new Step.Done) }
     ensures left { IfNone result ((registers.new ≡ registers.old) × (port.new ≡ port.old)) }
     ensures agrees { Agrees (P.shows port.new) held.new }
+    ensures wrote { IfSome result (λ _. IsWritten P.acts port.old port.new) }
 {
     if registers.nest.depth() == 0 || access.address >= port.size() {
         return None;
@@ -229,7 +230,7 @@ fn keep<P: Reserve>(
 fn obey_modified<P: Reserve>(
     registers: &mut Registers,
     port: &mut P,
-    held: &mut Option<Buffer>,
+    held: &mut Buffer,
     t: bool,
     u: bool,
     q: u8,
@@ -243,6 +244,7 @@ fn obey_modified<P: Reserve>(
         (try_order (P.shows port.old) registers.old (order.Direct t u q a)) port.old port.new registers.new Step.Done) }
     ensures left { IfNone result ((registers.new ≡ registers.old) × (port.new ≡ port.old)) }
     ensures agrees { Agrees (P.shows port.new) held.new }
+    ensures wrote { IfSome result (λ _. IsWritten P.acts port.old port.new) }
 {
     let access = direct_access(registers, u, q, a);
     if t {
@@ -257,7 +259,7 @@ fn obey_modified<P: Reserve>(
 fn obey_direct<P: Reserve>(
     registers: &mut Registers,
     port: &mut P,
-    held: &mut Option<Buffer>,
+    held: &mut Buffer,
     t: bool,
     u: bool,
     q: u8,
@@ -271,6 +273,7 @@ fn obey_direct<P: Reserve>(
         (try_order (P.shows port.old) registers.old (order.Direct t u q a)) port.old port.new registers.new Step.Done) }
     ensures left { IfNone result ((registers.new ≡ registers.old) × (port.new ≡ port.old)) }
     ensures agrees { Agrees (P.shows port.new) held.new }
+    ensures wrote { IfSome result (λ _. IsWritten P.acts port.old port.new) }
 {
     match q {
         0 => obey_modified(registers, port, held, t, u, 0, a),
@@ -283,7 +286,7 @@ fn obey_direct<P: Reserve>(
 fn obey_indirect<P: Reserve>(
     registers: &mut Registers,
     port: &mut P,
-    held: &mut Option<Buffer>,
+    held: &mut Buffer,
     code: u8,
     k: u8,
     q: u8,
@@ -298,6 +301,7 @@ fn obey_indirect<P: Reserve>(
         Step.Done) }
     ensures left { IfNone result ((registers.new ≡ registers.old) × (port.new ≡ port.old)) }
     ensures agrees { Agrees (P.shows port.new) held.new }
+    ensures wrote { IfSome result (λ _. IsWritten P.acts port.old port.new) }
 {
     let access = indirect_access(registers, code, k, q);
     if code / 8 % 2 == 1 {
@@ -386,7 +390,7 @@ fn obey_by_code<P: Port>(registers: &mut Registers, port: &P, code: u8) -> Optio
 fn obey_two<P: Reserve>(
     registers: &mut Registers,
     port: &mut P,
-    held: &mut Option<Buffer>,
+    held: &mut Buffer,
     decoded: Result<Order, BadCode>,
 ) -> Option<()>
     requires ran { registers.old.ran < u32.MAX }
@@ -397,6 +401,7 @@ fn obey_two<P: Reserve>(
         (try_decoded (P.shows port.old) registers.old (result_ok decoded)) port.old port.new registers.new Step.Done) }
     ensures left { IfNone result ((registers.new ≡ registers.old) × (port.new ≡ port.old)) }
     ensures agrees { Agrees (P.shows port.new) held.new }
+    ensures wrote { IfSome result (λ _. IsWritten P.acts port.old port.new) }
 {
     match decoded {
         Ok(Order::Indirect { code, k, q }) => obey_indirect(registers, port, held, code, k, q),
@@ -412,7 +417,7 @@ fn obey_two<P: Reserve>(
 fn obey_pair<P: Reserve>(
     registers: &mut Registers,
     port: &mut P,
-    held: &mut Option<Buffer>,
+    held: &mut Buffer,
     code: u8,
     second: u8,
 ) -> Option<()>
@@ -423,6 +428,7 @@ fn obey_pair<P: Reserve>(
         (try_decoded (P.shows port.old) registers.old (decoded_two code second)) port.old port.new registers.new Step.Done) }
     ensures left { IfNone result ((registers.new ≡ registers.old) × (port.new ≡ port.old)) }
     ensures agrees { Agrees (P.shows port.new) held.new }
+    ensures wrote { IfSome result (λ _. IsWritten P.acts port.old port.new) }
 {
     obey_two(registers, port, held, decode_two(code, second))
 }
@@ -432,7 +438,7 @@ fn obey_pair<P: Reserve>(
 fn obey_by_pair<P: Reserve>(
     registers: &mut Registers,
     port: &mut P,
-    held: &mut Option<Buffer>,
+    held: &mut Buffer,
     code: u8,
     second: u8,
 ) -> Option<()>
@@ -443,6 +449,7 @@ fn obey_by_pair<P: Reserve>(
         (try_decoded (P.shows port.old) registers.old (decoded_two code second)) port.old port.new registers.new Step.Done) }
     ensures left { IfNone result ((registers.new ≡ registers.old) × (port.new ≡ port.old)) }
     ensures agrees { Agrees (P.shows port.new) held.new }
+    ensures wrote { IfSome result (λ _. IsWritten P.acts port.old port.new) }
 {
     match code {
         0x6a => obey_pair(registers, port, held, 0x6a, second),
@@ -519,7 +526,7 @@ fn obey_by_triple<P: Port>(
 fn obey_store<P: Reserve>(
     registers: &mut Registers,
     port: &mut P,
-    held: &mut Option<Buffer>,
+    held: &mut Buffer,
     decoded: Result<Order, BadCode>,
 ) -> Option<()>
     requires ran { registers.old.ran < u32.MAX }
@@ -530,6 +537,7 @@ fn obey_store<P: Reserve>(
         (try_decoded (P.shows port.old) registers.old (result_ok decoded)) port.old port.new registers.new Step.Done) }
     ensures left { IfNone result ((registers.new ≡ registers.old) × (port.new ≡ port.old)) }
     ensures agrees { Agrees (P.shows port.new) held.new }
+    ensures wrote { IfSome result (λ _. IsWritten P.acts port.old port.new) }
 {
     match decoded {
         Ok(Order::Direct { t, u, q, a }) => obey_direct(registers, port, held, t, u, q, a),
@@ -543,7 +551,7 @@ fn obey_store<P: Reserve>(
 fn obey_spelt<P: Reserve>(
     registers: &mut Registers,
     port: &mut P,
-    held: &mut Option<Buffer>,
+    held: &mut Buffer,
     first: u8,
     second: u8,
     third: u8,
@@ -556,6 +564,7 @@ fn obey_spelt<P: Reserve>(
         port.old port.new registers.new Step.Done) }
     ensures left { IfNone result ((registers.new ≡ registers.old) × (port.new ≡ port.old)) }
     ensures agrees { Agrees (P.shows port.new) held.new }
+    ensures wrote { IfSome result (λ _. IsWritten P.acts port.old port.new) }
 {
     match first {
         0x00..=0x3f => obey_by_code(registers, port, first),
@@ -570,7 +579,7 @@ fn obey_spelt<P: Reserve>(
 fn obey_bits<P: Reserve>(
     registers: &mut Registers,
     port: &mut P,
-    held: &mut Option<Buffer>,
+    held: &mut Buffer,
     bits: u32,
 ) -> Option<()>
     requires ran { registers.old.ran < u32.MAX }
@@ -581,31 +590,28 @@ fn obey_bits<P: Reserve>(
         port.old port.new registers.new Step.Done) }
     ensures left { IfNone result ((registers.new ≡ registers.old) × (port.new ≡ port.old)) }
     ensures agrees { Agrees (P.shows port.new) held.new }
+    ensures wrote { IfSome result (λ _. IsWritten P.acts port.old port.new) }
 {
     let (first, second) = ((bits / 65_536 % 256) as u8, (bits / 256 % 256) as u8);
     obey_spelt(registers, port, held, first, second, (bits % 256) as u8)
 }
 
-/// An order at a syllable of this word.
+/// An order at a syllable of the word at hand.
 #[inline(always)]
-fn obey_from<P: Reserve>(
-    registers: &mut Registers,
-    port: &mut P,
-    held: &mut Option<Buffer>,
-    word: Buffer,
-) -> Option<()>
+fn obey_from<P: Reserve>(registers: &mut Registers, port: &mut P, held: &mut Buffer) -> Option<()>
     requires ran { registers.old.ran < u32.MAX }
     requires small { (act : Act) → IsSmall act → P.room port.old act }
     requires agrees { Agrees (P.shows port.old) held.old }
-    requires held { IsHeld (P.shows port.old) word }
-    requires low { word.first ≤ registers.old.at }
-    requires high { registers.old.at < word.first + 6 }
+    requires held { IsHeld (P.shows port.old) held.old }
+    requires low { held.old.first ≤ registers.old.at }
+    requires high { registers.old.at < held.old.first + 6 }
     ensures obeyed { IfSome result (λ _. CameTo P.acts (outcome (P.shows port.old) registers.old)
         port.old port.new registers.new Step.Done) }
     ensures left { IfNone result ((registers.new ≡ registers.old) × (port.new ≡ port.old)) }
     ensures agrees { Agrees (P.shows port.new) held.new }
+    ensures wrote { IfSome result (λ _. IsWritten P.acts port.old port.new) }
 {
-    match fetch_from(port, word, registers.at) {
+    match fetch_from(port, held, registers.at) {
         Some(bits) => obey_bits(registers, port, held, bits),
         None => None,
     }
@@ -617,7 +623,7 @@ fn obey_from<P: Reserve>(
 pub fn obey_quickly<P: Reserve>(
     registers: &mut Registers,
     port: &mut P,
-    held: &mut Option<Buffer>,
+    held: &mut Buffer,
 ) -> Option<()>
     requires ran { registers.old.ran < u32.MAX }
     requires small { (act : Act) → IsSmall act → P.room port.old act }
@@ -626,10 +632,10 @@ pub fn obey_quickly<P: Reserve>(
         port.old port.new registers.new Step.Done) }
     ensures left { IfNone result ((registers.new ≡ registers.old) × (port.new ≡ port.old)) }
     ensures agrees { Agrees (P.shows port.new) held.new }
+    ensures wrote { IfSome result (λ _. IsWritten P.acts port.old port.new) }
 {
-    *held = word_of(port, *held, registers.at);
-    match *held {
-        Some(word) => obey_from(registers, port, held, word),
-        None => None,
+    if !bring(port, held, registers.at) {
+        return None;
     }
+    obey_from(registers, port, held)
 }

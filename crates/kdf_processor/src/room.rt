@@ -1,12 +1,13 @@
 //! Memory, taken before an order is obeyed.
 ghost use Rattle.std.specs.Prelude.{◌≡◌, ◌<◌, IfNone, IfOk, IfSome, OnOk, OnErr};
-ghost use Rattle.kdf_processor.specs.Buffered.{Agrees};
+ghost use Rattle.kdf_processor.specs.Buffered.{Agrees, IsWritten};
 ghost use Rattle.kdf_processor.specs.Outcome.{outcome};
 ghost use Rattle.kdf_processor.specs.Plan.{CanObey, IsSettled, done_plan, planned_outcome};
 ghost use Rattle.kdf_processor.specs.Room.{WithRoom};
 ghost use Rattle.kdf_processor.specs.View.{View};
 ghost use Rattle.kdf_processor.specs.declared.registers.Registers.{Registers};
 
+use crate::buffer::no_word;
 use crate::obeying::obey_planned;
 use crate::plan::{Beginning, Plan};
 use crate::planning::{Planned, plan_next};
@@ -28,7 +29,7 @@ pub fn obey_with_room<P: Reserve>(
         (outcome (P.shows port.old) registers.old) port.old port.new registers.new step) }
     ensures err { OnErr result ((registers.new ≡ registers.old) × P.keeps port.old port.new) }
 {
-    let mut held = None;
+    let mut held = no_word();
     obey_buffered(registers, port, &mut held)
 }
 
@@ -38,7 +39,7 @@ pub fn obey_with_room<P: Reserve>(
 pub fn obey_buffered<P: Reserve>(
     registers: &mut Registers,
     port: &mut P,
-    held: &mut Option<Buffer>,
+    held: &mut Buffer,
 ) -> Result<Step, AllocError>
     requires live { registers.old.state ≡ Life.Live }
     requires ran { registers.old.ran < u32.MAX }
@@ -52,7 +53,7 @@ pub fn obey_buffered<P: Reserve>(
     match obey_quickly(registers, port, held) {
         Some(()) => Ok(Step::Done),
         None => {
-            *held = None;
+            *held = no_word();
             obey_any(registers, port)
         }
     }
@@ -64,7 +65,7 @@ pub fn obey_buffered<P: Reserve>(
 pub fn obey_at_once<P: Reserve>(
     registers: &mut Registers,
     port: &mut P,
-    held: &mut Option<Buffer>,
+    held: &mut Buffer,
 ) -> Option<()>
     requires ran { registers.old.ran < u32.MAX }
     requires ready { P.ready port.old }
@@ -73,6 +74,7 @@ pub fn obey_at_once<P: Reserve>(
         (outcome (P.shows port.old) registers.old) port.old port.new registers.new Step.Done) }
     ensures left { IfNone result ((registers.new ≡ registers.old) × (port.new ≡ port.old)) }
     ensures agrees { Agrees (P.shows port.new) held.new }
+    ensures wrote { IfSome result (λ _. IsWritten P.acts port.old port.new) }
 {
     obey_quickly(registers, port, held)
 }
@@ -82,7 +84,7 @@ pub fn obey_at_once<P: Reserve>(
 pub fn obey_in_general<P: Reserve>(
     registers: &mut Registers,
     port: &mut P,
-    held: &mut Option<Buffer>,
+    held: &mut Buffer,
 ) -> Result<Step, AllocError>
     requires live { registers.old.state ≡ Life.Live }
     requires ran { registers.old.ran < u32.MAX }
@@ -92,7 +94,7 @@ pub fn obey_in_general<P: Reserve>(
     ensures err { OnErr result ((registers.new ≡ registers.old) × P.keeps port.old port.new) }
     ensures agrees { Agrees (P.shows port.new) held.new }
 {
-    *held = None;
+    *held = no_word();
     obey_any(registers, port)
 }
 

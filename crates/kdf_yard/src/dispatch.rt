@@ -22,7 +22,7 @@ use crate::stint::retire;
 use crate::{Moment, Place, Program, Remark, Stand, Yard};
 use kdf_journal::Journal;
 use kdf_lockout::Store;
-use kdf_processor::{Buffer, Life, Registers, Step, obey_at_once, obey_in_general};
+use kdf_processor::{Buffer, Life, Registers, Step, no_word, obey_at_once, obey_in_general};
 use kdf_relocate::Window;
 use kdf_word::Word;
 use std::alloc::{AllocError, Global};
@@ -32,7 +32,7 @@ use std::alloc::{AllocError, Global};
 fn obey_at_hand(
     registers: &mut Registers,
     turn: &mut MachinePort<'_>,
-    held: &mut Option<Buffer>,
+    held: &mut Buffer,
 ) -> Option<()>
     requires ran { registers.old.ran < u32.MAX }
     requires quiet { turn.old.note ≡ Quiet }
@@ -40,6 +40,7 @@ fn obey_at_hand(
     ensures tried { IfSome result (λ _. HasTried (reach_in turn.old) (held_in turn.old) turn.old.moment
         (seat_in turn.old registers.old) (shared turn.old) (seat_in turn.new registers.new) (shared turn.new)
         Step.Done turn.new.note) }
+    ensures quiet { turn.new.note ≡ Quiet }
     ensures left { IfNone result ((registers.new ≡ registers.old) × (turn.new ≡ turn.old)) }
     ensures same { SameProgram turn.old turn.new }
     ensures agrees { Agrees (shown turn.new) held.new }
@@ -52,7 +53,7 @@ fn obey_at_hand(
 fn obey_next(
     registers: &mut Registers,
     turn: &mut MachinePort<'_>,
-    held: &mut Option<Buffer>,
+    held: &mut Buffer,
 ) -> Result<Step, AllocError>
     requires live { registers.old.state ≡ Life.Live }
     requires ran { registers.old.ran < u32.MAX }
@@ -94,31 +95,35 @@ fn obey_quiet<S: Seek>(
     ensures within { result.0 < most }
     ensures same { SameProgram turn.old turn.new }
 {
-    let mut done = 0;
-    let mut held = None;
+    let first = registers.ran;
+    let last = first + most;
+    let mut held = no_word();
     loop {
         match obey_at_hand(registers, turn, &mut held) {
             Some(()) => {
-                if done + 1 == most || !turn.is_quiet() || is_at::<S>(place, registers) {
-                    return (done, Ok((Step::Done, turn.note())));
+                if registers.ran == last || is_at::<S>(place, registers) {
+                    return (registers.ran - first - 1, Ok((Step::Done, Remark::Quiet)));
                 }
-                done += 1;
             }
-            None => match obey_next(registers, turn, &mut held) {
-                Ok(Step::Done) => {
-                    if done + 1 == most || !turn.is_quiet() || is_at::<S>(place, registers) {
-                        return (done, Ok((Step::Done, turn.note())));
+            None => {
+                let done = registers.ran - first;
+                match obey_next(registers, turn, &mut held) {
+                    Ok(Step::Done) => {
+                        if registers.ran == last || !turn.is_quiet() || is_at::<S>(place, registers)
+                        {
+                            return (done, Ok((Step::Done, turn.note())));
+                        }
                     }
-                    done += 1;
+                    Ok(step) => return (done, Ok((step, turn.note()))),
+                    Err(error) => return (done, Err(error)),
                 }
-                Ok(step) => return (done, Ok((step, turn.note()))),
-                Err(error) => return (done, Err(error)),
-            },
+            }
         }
     }
 }
 
 /// Tries orders of a program in its slot at a moment, as `obey_quiet` does.
+#[inline(always)]
 fn try_next<S: Seek>(
     stand: &Stand<'_>,
     moment: Moment,
@@ -195,6 +200,7 @@ fn settle(alloc: Global, program: &mut Program, places: &mut Vec<Place>)
 
 /// Tries orders of a program at a moment over what is shared, as `obey_quiet` does, and where the last ended it, takes
 /// back what it had from the pool.
+#[inline(always)]
 pub(crate) fn run<S: Seek>(
     stand: &Stand<'_>,
     moment: Moment,

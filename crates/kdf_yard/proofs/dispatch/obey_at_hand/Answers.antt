@@ -1,8 +1,10 @@
-use Rattle.std.proofs.Common.{Option, None, Some, sym, subst}
+use Rattle.std.proofs.Common.{◌≡◌, inl, inr, Option, None, Some, ap, sym, subst, ◌∙◌}
 use Rattle.std.specs.Prelude.{IfNone, IfSome}
+use Rattle.kdf_processor.specs.Buffered.{IsWritten}
 use Rattle.kdf_processor.specs.declared.step.Step.TheVariants.{Done}
 use Rattle.kdf_yard.specs.declared.machine_port.MachinePort.{MachinePort}
-use Rattle.kdf_yard.specs.Fields.MachinePort.{SameProgram}
+use Rattle.kdf_yard.specs.declared.remark.Remark.TheVariants.{Quiet}
+use Rattle.kdf_yard.specs.Fields.MachinePort.{Acts, SameProgram}
 use Rattle.kdf_yard.proofs.Turns.TurnsShow.{program_acts, program_itself, program_stays, program_then, tried_by}
 use Rattle.kdf_yard.proofs.dispatch.obey_at_hand.Goals as goal
 
@@ -28,3 +30,14 @@ returns-clause-same c =
     (program_acts done.kept c.obey_at_once.new.port _ done.obeyed.acted))
     (λ left. subst (λ (t : MachinePort). SameProgram c.args.turn.now t) (sym left.1) (program_itself c.args.turn.now))
     c.obey_at_once.ensures.obeyed c.obey_at_once.ensures.left
+
+-- a turn after which nothing is noted, whether it is as it was, or a word was written in it
+still : (t u : MachinePort) → t.note ≡ Quiet → IsWritten Acts t u → u.note ≡ Quiet
+still t u quiet (inl same) = ap (λ (w : MachinePort). w.note) same ∙ quiet
+still t u quiet (inr (a, w, acted)) = acted.note ∙ quiet
+
+pub returns-clause-quiet : goal.returns-clause-quiet
+returns-clause-quiet c =
+    either c.obey_at_once.result (λ _ wrote. still c.args.turn.now c.obey_at_once.new.port c.requires.quiet wrote)
+    (λ left. ap (λ (w : MachinePort). w.note) left.1 ∙ c.requires.quiet)
+    c.obey_at_once.ensures.wrote c.obey_at_once.ensures.left

@@ -12,14 +12,16 @@ invariant-loop-turn g l =
     record {
       same : SameProgram l.fn.turn l.turn;
       live : l.registers.state ≡ life.Live;
-      few : l.done < l.most;
-      ran : l.registers.ran + (l.most - l.done) ≤ 4294967295;
+      first : l.first ≡ l.fn.registers.ran;
+      last : l.last ≡ l.first + l.most;
+      least : l.first ≤ l.registers.ran;
+      few : l.registers.ran < l.last;
       quiet : l.turn.note ≡ Quiet;
       agrees : Agrees (shown l.turn) l.held;
       earlier :
-          AreQuiet (Passes of_seat l.place (HasTried (reach_in l.fn.turn) (held_in l.fn.turn) l.fn.turn.moment)) l.done (seat_in l.fn.turn l.fn.registers)
+          AreQuiet (Passes of_seat l.place (HasTried (reach_in l.fn.turn) (held_in l.fn.turn) l.fn.turn.moment)) (l.registers.ran - l.first) (seat_in l.fn.turn l.fn.registers)
           (shared l.fn.turn) (seat_in l.turn l.registers) (shared l.turn);
     }
 
 abbrev pub decreases-loop-turn : goal.decreases-loop-turn
-decreases-loop-turn g l = l.most - l.done
+decreases-loop-turn g l = l.last - l.registers.ran
