@@ -6,18 +6,16 @@ use Rattle.std.specs.List.{IsDistinct, list_any}
 use Rattle.std.proofs.lemmas.List.{map-append}
 use Rattle.std.proofs.lemmas.List.Elements.{All-push}
 use Rattle.kdf_journal.specs.declared.kind.Kind.{Kind}
-use Rattle.kdf_journal.specs.declared.kind.Kind.TheVariants.{Tr, Tp, Cr, Lp, Mt}
 use Rattle.kdf_job.specs.declared.draft.Draft.{Draft}
 use Rattle.kdf_job.specs.declared.fault.JobFault.{JobFault}
-use Rattle.kdf_job.specs.declared.fault.JobFault.TheVariants.{BadLabel, DeviceTwice, PoolKind}
+use Rattle.kdf_job.specs.declared.fault.JobFault.TheVariants.{DeviceTwice}
 use Rattle.kdf_job.specs.Draft.{ShownSlotDraft, ShownDraft, fault_of, is_writer, lent_fault, pool_numbers, numbers_of, numbers_told, slot_of, slots_told, tells}
-use Rattle.kdf_job.specs.Draft.{with_line}
+use Rattle.kdf_job.specs.Draft.{no_writer_fault, with_line}
 use Rattle.kdf_job.specs.Draft.{words_in}
 use Rattle.kdf_job.specs.Forms.{APoolDevice}
 use Rattle.kdf_job.specs.Job.{ShownSlot}
 use Rattle.kdf_job.specs.Kept.{AreTold, IsBegun, IsKept}
 use Rattle.kdf_job.specs.Lengths.{kept_length}
-use Rattle.kdf_job.specs.Media.{is_label}
 use Rattle.kdf_job.specs.Shows.{shown_draft}
 use Rattle.kdf_job.specs.Taking.{IsSound, Taken}
 use Rattle.kdf_job.specs.WellFormed.{IsLent}
@@ -29,16 +27,12 @@ pub after_free : (b : Bool) (o : Option JobFault) → cond b (Some DeviceTwice) 
 after_free true o h = absurd cc
 after_free false o h = (refl, h)
 
-no_tape : (b : Bool) → cond b (Some PoolKind) (Some BadLabel) ≡ None → false ≡ true
-no_tape true h = absurd cc
-no_tape false h = absurd cc
+no_fault : (b : Bool) (fault : JobFault) → cond b None (Some fault) ≡ None → b ≡ true
+no_fault true fault h = refl
+no_fault false fault h = absurd cc
 
 pub a_writer : (kind : Kind) (label : List ℕ) → lent_fault kind label ≡ None → is_writer kind ≡ true
-a_writer Tp label h = refl
-a_writer Lp label h = refl
-a_writer Tr label h = absurd cc
-a_writer Cr label h = absurd cc
-a_writer Mt label h = no_tape (is_label label) h
+a_writer kind label h = no_fault (is_writer kind) (no_writer_fault kind label) h
 
 -- it changes no slot
 untouched : (n : ℕ) (kind : Kind) (label : List ℕ) (o : Option ShownSlotDraft) → option_map (tells (APoolDevice n kind label)) o ≡ o

@@ -198,10 +198,14 @@ is_writer Tp = true
 is_writer Lp = true
 is_writer _ = false
 
--- what is wrong with lending out a device; labels are told apart within a slot alone, and the pool is in none
+-- what is wrong with lending out a device that is neither; labels are told apart within a slot alone, and the pool is in none
+abbrev pub no_writer_fault : Kind → List ℕ → JobFault
+no_writer_fault Mt label = if is_label label then PoolKind else BadLabel
+no_writer_fault _ label = PoolKind
+
+-- what is wrong with lending out a device
 abbrev pub lent_fault : Kind → List ℕ → Option JobFault
-lent_fault Mt label = if is_label label then Some PoolKind else Some BadLabel
-lent_fault kind label = if is_writer kind then None else Some PoolKind
+lent_fault kind label = if is_writer kind then None else Some (no_writer_fault kind label)
 
 abbrev pub pool_fault : ℕ → Kind → List ℕ → ShownDraft → Option JobFault
 pool_fault n kind label d =
