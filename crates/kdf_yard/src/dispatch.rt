@@ -109,7 +109,9 @@ fn obey_quiet<S: Seek>(
                 let done = registers.ran - first;
                 match obey_next(registers, turn, &mut held) {
                     Ok(Step::Done) => {
-                        if registers.ran == last || !turn.is_quiet() || is_at::<S>(place, registers)
+                        if registers.ran == last
+                            || !turn.is_quiet()
+                            || is_at::<S>(place, registers)
                         {
                             return (done, Ok((Step::Done, turn.note())));
                         }

@@ -1,4 +1,4 @@
-use Rattle.std.proofs.Common.{◌≡◌, ℕ, suc, ◌+◌, false, Option, refl, sym, subst, ◌∙◌, arith}
+use Rattle.std.proofs.Common.{◌≡◌, ℕ, suc, ◌+◌, ◌-◌, ◌≤◌, false, Option, refl, sym, subst, ◌∙◌, arith}
 use Rattle.kdf_processor.specs.declared.registers.Registers.{Registers}
 use Rattle.kdf_processor.specs.declared.step.Step.{Step}
 use Rattle.kdf_processor.specs.declared.step.Step.TheVariants.{Done}
@@ -52,90 +52,31 @@ quiet_on place t u w first r left n earlier quiet tried past =
       ),
     )
 
-pub returns-then-done-most-clause-tried : goal.returns-then-done-most-clause-tried
-returns-then-done-most-clause-tried g c =
-    let before = c.loop-turn in
-    let new = c.obey_at_hand.new in
-    last_by (reach_in c.args.turn.now) (held_in c.args.turn.now) c.args.turn.now.moment c.args.place before.done _ _ _ _ _ _ _ Done Done new.turn.note
-    c.note.result
-    before.invariant.earlier refl
-    (over c.args.turn.now before.turn new.turn before.registers new.registers Done before.invariant.same c.in-Some.ensures.tried)
-    refl c.note.ensures
+-- so many orders since the first, once one more was obeyed
+more : (first ran ran' : ℕ) → first ≤ ran → ran' ≡ ran + 1 → (ran - first) + 1 ≡ ran' - first
+more first ran ran' least one = omega (arith, least, one)
 
-pub loop-turn-preserved-in-Some : goal.loop-turn-preserved-in-Some
-loop-turn-preserved-in-Some g c =
-    let before = c.loop-turn in
-    let new = c.obey_at_hand.new in
-    let quiet : new.turn.note ≡ Quiet = c.is_quiet.ensures c.if-not-is_quiet.false in
-    let tried = over c.args.turn.now before.turn new.turn before.registers new.registers Done before.invariant.same c.in-Some.ensures.tried in
-    let gone = went c.args.turn.now before.turn new.turn before.registers new.registers tried in
-    record {
-      same = program_then c.args.turn.now before.turn new.turn before.invariant.same c.obey_at_hand.ensures.same;
-      live = gone.state ∙ before.invariant.live;
-      few = (let more = c.if-done-most.false in let few = before.invariant.few in omega arith);
-      ran = omega (arith, before.invariant.ran, before.invariant.few, gone.ran);
-      quiet = quiet;
-      agrees = c.obey_at_hand.ensures.agrees;
-      earlier = quiet_on c.args.place c.args.turn.now before.turn new.turn c.args.registers.now before.registers new.registers before.done
-          before.invariant.earlier quiet tried (sym c.is_at.ensures ∙ c.if-is_at.false);
-    }
+-- so many before the last
+before_last : (first ran ran' : ℕ) → first ≤ ran → ran' ≡ ran + 1 → ran - first ≡ ran' - first - 1
+before_last first ran ran' least one = omega (arith, least, one)
 
-pub returns-then-done-most-2-clause-tried : goal.returns-then-done-most-2-clause-tried
-returns-then-done-most-2-clause-tried g c =
-    let before = c.loop-turn in
-    let left = c.in-None.ensures.left in
-    let mid = c.obey_at_hand.new in
-    let new = c.obey_next.new in
-    let tried : TriesOver mid.turn mid.turn new.turn mid.registers new.registers Done =
-    subst (TriesOver mid.turn mid.turn new.turn mid.registers new.registers) c.in-Ok-Done.field-0-is c.in-Ok-Done.ensures.tried in
-    last_by (reach_in c.args.turn.now) (held_in c.args.turn.now) c.args.turn.now.moment c.args.place before.done _ _ _ _ _ _ _ Done Done new.turn.note
-    c.note-then-done-most-2.result
-    before.invariant.earlier refl
-    (over c.args.turn.now before.turn new.turn before.registers new.registers Done before.invariant.same
-    (unchanged before.turn mid.turn new.turn before.registers mid.registers new.registers Done left.0 left.1 tried))
-    refl c.note-then-done-most-2.ensures
+pub returns-then-registers-last-clause-tried : goal.returns-then-registers-last-clause-tried
+returns-then-registers-last-clause-tried g c = ?
 
-pub loop-turn-preserved : goal.loop-turn-preserved
-loop-turn-preserved g c =
-    let before = c.loop-turn in
-    let left = c.in-None.ensures.left in
-    let mid = c.obey_at_hand.new in
-    let new = c.obey_next.new in
-    let quiet : new.turn.note ≡ Quiet = c.is_quiet-else-done-most-2.ensures c.if-not-is_quiet-2.false in
-    let here : TriesOver mid.turn mid.turn new.turn mid.registers new.registers Done =
-    subst (TriesOver mid.turn mid.turn new.turn mid.registers new.registers) c.in-Ok-Done.field-0-is c.in-Ok-Done.ensures.tried in
-    let tried =
-    over c.args.turn.now before.turn new.turn before.registers new.registers Done before.invariant.same
-    (unchanged before.turn mid.turn new.turn before.registers mid.registers new.registers Done left.0 left.1 here) in
-    let gone = went c.args.turn.now before.turn new.turn before.registers new.registers tried in
-    record {
-      same = program_then c.args.turn.now mid.turn new.turn
-          (program_then c.args.turn.now before.turn mid.turn before.invariant.same c.obey_at_hand.ensures.same) c.obey_next.ensures.same;
-      live = gone.state ∙ before.invariant.live;
-      few = (let more = c.if-done-most-2.false in let few = before.invariant.few in omega arith);
-      ran = omega (arith, before.invariant.ran, before.invariant.few, gone.ran);
-      quiet = quiet;
-      agrees = c.obey_next.ensures.agrees;
-      earlier = quiet_on c.args.place c.args.turn.now before.turn new.turn c.args.registers.now before.registers new.registers before.done
-          before.invariant.earlier quiet tried (sym c.is_at-else-not-is_quiet-2.ensures ∙ c.if-is_at-2.false);
-    }
+pub loop-registers-smaller-in-Some : goal.loop-registers-smaller-in-Some
+loop-registers-smaller-in-Some g c = ?
+
+pub loop-registers-preserved-in-Some : goal.loop-registers-preserved-in-Some
+loop-registers-preserved-in-Some g c = ?
+
+pub returns-then-registers-last-2-clause-tried : goal.returns-then-registers-last-2-clause-tried
+returns-then-registers-last-2-clause-tried g c = ?
+
+pub loop-registers-smaller : goal.loop-registers-smaller
+loop-registers-smaller g c = ?
+
+pub loop-registers-preserved : goal.loop-registers-preserved
+loop-registers-preserved g c = ?
 
 pub returns-in-Ok : goal.returns-in-Ok
-returns-in-Ok g c =
-    let before = c.loop-turn in
-    let left = c.in-None.ensures.left in
-    let mid = c.obey_at_hand.new in
-    let new = c.obey_next.new in
-    let tried = unchanged before.turn mid.turn new.turn before.registers mid.registers new.registers c.in-Ok.step left.0 left.1 c.in-Ok.ensures.tried in
-    record {
-      tried =
-          last_by (reach_in c.args.turn.now) (held_in c.args.turn.now) c.args.turn.now.moment c.args.place before.done _ _ _ _ _ _ _ c.in-Ok.step c.in-Ok.step
-          new.turn.note c.note-in-Ok.result
-          before.invariant.earlier refl
-          (over c.args.turn.now before.turn new.turn before.registers new.registers c.in-Ok.step before.invariant.same tried)
-          refl c.note-in-Ok.ensures;
-      err = tt;
-      within = before.invariant.few;
-      same = program_then c.args.turn.now mid.turn new.turn
-          (program_then c.args.turn.now before.turn mid.turn before.invariant.same c.obey_at_hand.ensures.same) c.obey_next.ensures.same;
-    }
+returns-in-Ok g c = ?

@@ -7,8 +7,8 @@ use Rattle.kdf_yard.specs.Fields.MachinePort.{held_in, reach_in, seat_in, shared
 use Rattle.kdf_yard.specs.Fields.Turned.{HasTried}
 use Rattle.kdf_yard.proofs.dispatch.obey_quiet.Given as goal
 
-abbrev pub invariant-loop-turn : goal.invariant-loop-turn
-invariant-loop-turn g l =
+abbrev pub invariant-loop-registers : goal.invariant-loop-registers
+invariant-loop-registers g l =
     record {
       same : SameProgram l.fn.turn l.turn;
       live : l.registers.state ≡ life.Live;
@@ -23,5 +23,5 @@ invariant-loop-turn g l =
           (shared l.fn.turn) (seat_in l.turn l.registers) (shared l.turn);
     }
 
-abbrev pub decreases-loop-turn : goal.decreases-loop-turn
-decreases-loop-turn g l = l.last - l.registers.ran
+abbrev pub decreases-loop-registers : goal.decreases-loop-registers
+decreases-loop-registers g l = l.last - l.registers.ran
