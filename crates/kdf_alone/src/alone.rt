@@ -72,11 +72,7 @@ impl Alone {
 
     /// The same, where the word that syllables were fetched from last is at hand.
     #[inline(always)]
-    fn order_buffered(
-        &mut self,
-        answers: &[u64],
-        held: &mut Buffer,
-    ) -> Result<Step, AllocError>
+    fn order_buffered(&mut self, answers: &[u64], held: &mut Buffer) -> Result<Step, AllocError>
         requires live { is_live self.old.registers.state ≡ true }
         requires ran { self.old.registers.ran < u32.MAX }
         requires agrees { Agrees (words_of self.old) held.old }
