@@ -1,7 +1,7 @@
 -- A word that is written leaves the others as they can be read.
 use Rattle.std.proofs.Common.{◌≡◌, ◌≢◌, ℕ, ◌<◌, false, refl, sym, ap, ◌∙◌, subst}
 use Rattle.std.proofs.lemmas.List.{get_or-set_other}
-use Rattle.kdf_processor.specs.Buffered.{Agrees, IsHeld, IsThere}
+use Rattle.kdf_processor.specs.Buffered.{Agrees, IsThere}
 use Rattle.kdf_processor.specs.Effect.{Question, Writes}
 use Rattle.kdf_processor.specs.Needs.{group_of}
 use Rattle.kdf_processor.specs.Row.{at_once}

@@ -1,5 +1,5 @@
 //! The word that syllables are fetched from, kept while they are of one word.
-ghost use Rattle.std.specs.Prelude.{◌≡◌, ◌≢◌, ◌*◌, ◌<◌, ◌≤◌, false, true, IfSome};
+ghost use Rattle.std.specs.Prelude.{◌≡◌, ◌≢◌, ◌+◌, ◌*◌, ◌<◌, ◌≤◌, false, IfSome};
 ghost use Rattle.kdf_processor.specs.Buffered.{Agrees, Has, IsHeld, IsWritten};
 ghost use Rattle.kdf_processor.specs.Effect.{Writes};
 ghost use Rattle.kdf_processor.specs.Needs.{group_of};
@@ -31,15 +31,6 @@ pub fn no_word() -> Buffer
     }
 }
 
-/// Whether a word is at hand, and a syllable is of it.
-#[inline(always)]
-fn is_at_hand(held: &Buffer, at: u16) -> bool
-    requires { held.now.first ≤ 65536 }
-    ensures { result ≡ true → Has held.now at }
-{
-    u32::from(at).wrapping_sub(held.first) < 6
-}
-
 /// The word of a syllable, unless it is outside the store or its group is out.
 #[inline(always)]
 fn read_word<P: Port>(port: &P, at: u16) -> Option<Buffer>
@@ -58,23 +49,21 @@ fn read_word<P: Port>(port: &P, at: u16) -> Option<Buffer>
     }
 }
 
-/// Brings the word of a syllable to hand, unless it is there. Answers whether it is: it isn't outside the store, and its group isn't out.
+/// Brings the word of a syllable to hand, unless it is there. Answers which of its six syllables that is, or None where it is outside the
+/// store or its group is out.
 #[inline(always)]
-pub fn bring<P: Port>(port: &P, held: &mut Buffer, at: u16) -> bool
+pub fn bring<P: Port>(port: &P, held: &mut Buffer, at: u16) -> Option<u32>
     requires { Agrees (P.shows port.now) held.old }
     ensures agrees { Agrees (P.shows port.now) held.new }
-    ensures its { result ≡ true → IsHeld (P.shows port.now) held.new × Has held.new at }
+    ensures its { IfSome result (λ place. IsHeld (P.shows port.now) held.new × (at ≡ held.new.first + place) × place < 6) }
 {
-    if is_at_hand(held, at) {
-        return true;
+    let place = u32::from(at).wrapping_sub(held.first);
+    if place < 6 {
+        return Some(place);
     }
-    match read_word(port, at) {
-        Some(word) => {
-            *held = word;
-            true
-        }
-        None => false,
-    }
+    let word = read_word(port, at)?;
+    *held = word;
+    Some(u32::from(at) - held.first)
 }
 
 /// Lets go of the word at hand, if it is the one at this address.

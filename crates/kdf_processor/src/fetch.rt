@@ -65,19 +65,20 @@ pub fn fetch_order<P: Port>(port: &P, at: u16) -> Fetched
     }
 }
 
-/// The 24 bits that the order at a syllable of this word begins, or None where it is held up or there is none.
+/// The 24 bits that the order at this one of the six syllables of a word begins, or None where it is held up or there is none.
 #[inline(always)]
-pub fn fetch_from<P: Port>(port: &P, held: &Buffer, at: u16) -> Option<u32>
+pub fn fetch_from<P: Port>(port: &P, held: &Buffer, at: u16, place: u32) -> Option<u32>
     requires held { IsHeld (P.shows port.now) held.now }
-    requires low { held.now.first ≤ at }
-    requires high { at < held.now.first + 6 }
+    requires place { at ≡ held.now.first + place }
+    requires six { place < 6 }
     ensures { IfSome result (λ bits. IsFetchedAt (P.shows port.now) at (spelt_of bits)) }
 {
-    let place = u32::from(at) - held.first;
-    match place {
-        0..4 => Some(bits_within(held.word, place as u8)),
-        4 => together(fetch_from_fifth(port, at, held.word)),
-        _ => together(fetch_from_sixth(port, at, syllable(held.word, 5))),
+    if place < 4 {
+        Some(bits_within(held.word, place as u8))
+    } else if place == 4 {
+        together(fetch_from_fifth(port, at, held.word))
+    } else {
+        together(fetch_from_sixth(port, at, syllable(held.word, 5)))
     }
 }
 

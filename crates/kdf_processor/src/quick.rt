@@ -596,22 +596,27 @@ fn obey_bits<P: Reserve>(
     obey_spelt(registers, port, held, first, second, (bits % 256) as u8)
 }
 
-/// An order at a syllable of the word at hand.
+/// An order at this one of the six syllables of the word at hand.
 #[inline(always)]
-fn obey_from<P: Reserve>(registers: &mut Registers, port: &mut P, held: &mut Buffer) -> Option<()>
+fn obey_from<P: Reserve>(
+    registers: &mut Registers,
+    port: &mut P,
+    held: &mut Buffer,
+    place: u32,
+) -> Option<()>
     requires ran { registers.old.ran < u32.MAX }
     requires small { (act : Act) → IsSmall act → P.room port.old act }
     requires agrees { Agrees (P.shows port.old) held.old }
     requires held { IsHeld (P.shows port.old) held.old }
-    requires low { held.old.first ≤ registers.old.at }
-    requires high { registers.old.at < held.old.first + 6 }
+    requires place { registers.old.at ≡ held.old.first + place }
+    requires six { place < 6 }
     ensures obeyed { IfSome result (λ _. CameTo P.acts (outcome (P.shows port.old) registers.old)
         port.old port.new registers.new Step.Done) }
     ensures left { IfNone result ((registers.new ≡ registers.old) × (port.new ≡ port.old)) }
     ensures agrees { Agrees (P.shows port.new) held.new }
     ensures wrote { IfSome result (λ _. IsWritten P.acts port.old port.new) }
 {
-    match fetch_from(port, held, registers.at) {
+    match fetch_from(port, held, registers.at, place) {
         Some(bits) => obey_bits(registers, port, held, bits),
         None => None,
     }
@@ -634,8 +639,8 @@ pub fn obey_quickly<P: Reserve>(
     ensures agrees { Agrees (P.shows port.new) held.new }
     ensures wrote { IfSome result (λ _. IsWritten P.acts port.old port.new) }
 {
-    if !bring(port, held, registers.at) {
-        return None;
+    match bring(port, held, registers.at) {
+        Some(place) => obey_from(registers, port, held, place),
+        None => None,
     }
-    obey_from(registers, port, held)
 }

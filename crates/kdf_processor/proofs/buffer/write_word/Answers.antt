@@ -1,4 +1,4 @@
-use Rattle.std.proofs.Common.{◌≡◌, ◌≢◌, ℕ, ◌<◌, ◌*◌, ◌/◌, ◌%◌, sym, ap, subst, ◌∙◌, arith}
+use Rattle.std.proofs.Common.{◌≡◌, ◌≢◌, ℕ, ◌<◌, ◌*◌, ◌/◌, ◌%◌, sym, subst, arith}
 use Rattle.kdf_processor.specs.Buffered.{IsHeld}
 use Rattle.kdf_processor.specs.declared.buffer.Buffer.{Buffer}
 use Rattle.kdf_processor.proofs.buffer.write_word.Goals as goal
@@ -19,7 +19,8 @@ returns-clause-agrees g c =
             least = old.least;
             whole = old.whole;
             there =
-                g.met.P.Reserve.beside c.args.port.now c.args.address c.args.word (c.args.held.now.first / 6) c.args.held.now.word c.write.new.self c.in-Ok.ensures.ok
+                g.met.P.Reserve.beside c.args.port.now c.args.address c.args.word (c.args.held.now.first / 6) c.args.held.now.word c.write.new.self
+                c.in-Ok.ensures.ok
                 (elsewhere c.args.held.now.first c.args.address old.whole (subst (λ (b : Buffer). b.first ≢ 6 * c.args.address) left.0 left.1)) old.there;
           });
     }

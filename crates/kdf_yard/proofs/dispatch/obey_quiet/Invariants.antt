@@ -19,8 +19,8 @@ invariant-loop-registers g l =
       quiet : l.turn.note ≡ Quiet;
       agrees : Agrees (shown l.turn) l.held;
       earlier :
-          AreQuiet (Passes of_seat l.place (HasTried (reach_in l.fn.turn) (held_in l.fn.turn) l.fn.turn.moment)) (l.registers.ran - l.first) (seat_in l.fn.turn l.fn.registers)
-          (shared l.fn.turn) (seat_in l.turn l.registers) (shared l.turn);
+          AreQuiet (Passes of_seat l.place (HasTried (reach_in l.fn.turn) (held_in l.fn.turn) l.fn.turn.moment))
+          (l.registers.ran - l.first) (seat_in l.fn.turn l.fn.registers) (shared l.fn.turn) (seat_in l.turn l.registers) (shared l.turn);
     }
 
 abbrev pub decreases-loop-registers : goal.decreases-loop-registers
