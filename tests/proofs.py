@@ -129,8 +129,8 @@ def clauses_are_those_of_the_files(page: Page) -> Cases:
         match = re.match(r"(?:laws::)?(?:\w+::)*?((?:\w+::)?\w+)(?:<[^(]*>)?\(", line)
         if not match or crate in ("kdf_trials",):
             continue
-        name = called(crate, match[1]) if not line.startswith("laws::") else match[1].split("::")[-1]
-        has_contract = (crate, name) in named or (crate, name.split("::")[-1]) in named or not contract_of(crate, name)
+        name = match[1] if not line.startswith("laws::") else match[1].split("::")[-1]
+        has_contract = (crate, name) in named or (crate, called(crate, name)) in named or (crate, name.split("::")[-1]) in named or not contract_of(crate, name)
         yield f"{crate}: {name}", None if has_contract else "isn't on the page"
 
 
