@@ -120,6 +120,9 @@ def unpacked_runs(work: pathlib.Path, tar: pathlib.Path, path: str) -> Cases:
     (own / "crates/kdf9/out/engine/libkdf9.so").rename(work / "libkdf9.so")
     told = run(["./kdf9", "listing", f"examples/{FIRST}.job"], own, PATH=path, KDF9_LIBRARY="")
     yield "listing without the library", None if told == Run(1, "", WITHOUT_LIBRARY) else f"{told}"
+    told = run(["./kdf9", "explain", "examples/adds-to-nothing.job"], own, PATH=path, KDF9_LIBRARY="")
+    alone = WITHOUT_LIBRARY.replace("\n", "; so this is the answer of the program alone\n")
+    yield "explain without the library", None if told.status == 1 and told.out.startswith("KDF9 REPORT 1\n") and told.err == alone else f"{told}"
     page = run(["./kdf9", "page"], own, PATH=path)
     has_page = (own / "kdf9.html").is_file()
     good = page.out == (own / "kdf9.html").read_text(encoding="utf-8") if has_page else page.status == 1 and page.err.count("\n") == 1

@@ -130,8 +130,18 @@ def clauses_are_those_of_the_files(page: Page) -> Cases:
         if not match or crate in ("kdf_trials",):
             continue
         name = match[1] if not line.startswith("laws::") else match[1].split("::")[-1]
-        has_contract = (crate, name) in named or (crate, name.split("::")[-1]) in named or not contract_of(crate, name)
+        has_contract = (crate, name) in named or (crate, called(crate, name)) in named or (crate, name.split("::")[-1]) in named or not contract_of(crate, name)
         yield f"{crate}: {name}", None if has_contract else "isn't on the page"
+
+
+def called(crate: str, name: str) -> str:
+    """The name of a method by the type that has it, where the type of this name is another name of that one."""
+    of, _, own = name.rpartition("::")
+    for path in (ROOT / "crates" / crate / "src").rglob("*.rt") if of else ():
+        other = re.search(rf"^pub type {of} = (\w+)", path.read_text(encoding="utf-8"), re.MULTILINE)
+        if other:
+            return f"{other[1]}::{own}"
+    return name
 
 
 def contract_of(crate: str, name: str) -> bool:

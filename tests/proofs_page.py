@@ -12,7 +12,7 @@ Cases = Iterator[Tuple[str, Optional[str]]]
 
 READY = "document.readyState === 'complete' && document.title.includes(': ')"
 PARTS = ("theorem", "map", "believe", "calls", "rules", "help")
-TAB, ENTER, ESCAPE, DOWN = ("Tab", 9), ("Enter", 13), ("Escape", 27), ("ArrowDown", 40)
+TAB, ENTER, ESCAPE, RIGHT, DOWN = ("Tab", 9), ("Enter", 13), ("Escape", 27), ("ArrowRight", 39), ("ArrowDown", 40)
 MOST_TABS = 60
 
 # The entries that the pictures of a reader go through: a definition with a trail, a crate, a module, a call, a law, a field and a word of the library.
@@ -186,6 +186,25 @@ def keys_do_all(running: Browser, file: pathlib.Path) -> Cases:
     page.wait("location.hash.endsWith('.is_out')")
     page.wait("document.getElementById('found').hidden")
     yield "a name that is found", None if page.js("document.getElementById('entry-title').textContent") == "is_out" else "isn't shown"
+    left = page.js("document.getElementById('sought').value + document.getElementById('found-said').textContent")
+    yield "the search after a name is found", None if left == "" else f"still has {left!r}"
+    page.close()
+
+
+def picture_goes_on(running: Browser, file: pathlib.Path) -> Cases:
+    """On a telephone the picture of the map is scrolled by keys in a box of its own, with a shade at the edge where it goes on."""
+    page = running.open(f"file://{file}#map", 390, 844)
+    page.wait(READY)
+    box = "document.querySelector('#part-map .drawing')"
+    for _ in range(MOST_TABS):
+        if page.js(f"document.activeElement === {box}"):
+            break
+        press(page, TAB)
+    for _ in range(3):
+        press(page, RIGHT)
+    page.wait(f"{box}.scrollLeft > 0")
+    shade, window = page.js(f"[getComputedStyle({box}).backgroundAttachment, scrollX]")
+    yield "the map on a telephone by keys", None if shade == "local, local, scroll, scroll" and window == 0 else f"has the shade {shade}, and the window is scrolled by {window} px"
     page.close()
 
 
@@ -252,7 +271,7 @@ def in_chromium(file: pathlib.Path, data: Any) -> Cases:
     with Browser() as running:
         for suite in (
             walks_lead_there(running, file, WALKS, "Chromium"), definitions_open_in_place(running, file, data), names_open_by_address(running, file), all_links_lead_somewhere(running, file),
-            all_texts_are_drawn_as_they_are(running, file, data), keys_do_all(running, file), all_can_be_read(running, file), all_has_its_name(running, file), nothing_was_asked_for(running, file),
+            all_texts_are_drawn_as_they_are(running, file, data), keys_do_all(running, file), picture_goes_on(running, file), all_can_be_read(running, file), all_has_its_name(running, file), nothing_was_asked_for(running, file),
         ):
             try:
                 yield from suite

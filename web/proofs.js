@@ -375,7 +375,7 @@ addEventListener("click", (event) => {
   const link = event.target.closest("a");
   if (!link?.hash || event.ctrlKey || event.metaKey || event.shiftKey || event.button) return;
   const key = decodeURIComponent(link.hash.slice(1));
-  if (link.closest("#found")) hideFound();
+  if (link.closest("#found")) clearSearch();
   if (!numberByKey.has(key) || !link.closest(".block") || link.classList.contains("alone")) return;
   event.preventDefault();
   if (link.classList.contains("open")) { leave(openers.findIndex((opener) => opener.link === link)); return; }
@@ -410,6 +410,13 @@ function namesWith(text) {
 
 function hideFound() {
   byId("found").hidden = true;
+}
+
+/** Empties the search, as it is before the first letter. */
+function clearSearch() {
+  byId("sought").value = "";
+  byId("found-said").textContent = "";
+  hideFound();
 }
 
 byId("sought").addEventListener("input", () => {

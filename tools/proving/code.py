@@ -213,12 +213,14 @@ def declared(text: str, match: "re.Match[str]") -> Declared:
 
 
 def owners(text: str) -> List[Tuple[int, int, str, bool]]:
-    """The stretches of a file that are an `impl` or a trait: from where to where, of which type, and whether what is in it is public with its type."""
-    found = []
+    """The stretches of a file that are an `impl` or a trait: from where to where, of which type, and whether what is in it is public with its type. A type that has
+    another name in the file is called by that.
+    """
+    found, others = [], {of: name for name, of in re.findall(r"^pub type (\w+) = (.*);$", text, re.MULTILINE)}
     for match in IMPL.finditer(text):
         head = re.sub(r"<[^<>]*(?:<[^<>]*>[^<>]*)*>", "", match[1].replace("->", ""))
         of = (head.split(" for ")[-1]).strip().split("::")[-1].split()[0]
-        found.append((match.start(), closed(text, match.end() - 1), of, " for " in head))
+        found.append((match.start(), closed(text, match.end() - 1), others.get(match[1].strip(), of), " for " in head))
     for match in TRAIT.finditer(text):
         found.append((match.start(), closed(text, match.end() - 1), match[1], True))
     return found

@@ -355,9 +355,11 @@ class World:
         return self.model(key, args) if key else None
 
     def model(self, key: str, args: List[Type]) -> Type:
-        """How contracts see a value of a type with this key: as another value, if it says so, or else by its fields."""
+        """How contracts see a value of a type with this key: as what it is another name of, as another value, if it says so, or else by its fields."""
         named = self.named[key]
         file = self.files[named.module]
+        if named.kind == "type":
+            return self.seen(self.types[key].text.partition("=")[2].rstrip(";"), file, [])
         if named.name in file.models:
             inside = next((each.inside for each in file.functions if each.of == named.name), [])
             env = {**self.env_of_code(file, None), **self.env_of(inside), **self.model_env(file)}
