@@ -81,7 +81,8 @@ returns-then-registers-last-clause-tried g c =
     let new = c.obey_at_hand.new in
     let tried = over c.args.turn.now before.turn new.turn before.registers new.registers Done before.invariant.same c.in-Some.ensures.tried in
     let gone = went c.args.turn.now before.turn new.turn before.registers new.registers tried in
-    last_by (reach_in c.args.turn.now) (held_in c.args.turn.now) c.args.turn.now.moment c.args.place (before.registers.ran - c.args.registers.now.ran) _ _ _ _ _ _ _
+    last_by (reach_in c.args.turn.now) (held_in c.args.turn.now) c.args.turn.now.moment c.args.place
+    (before.registers.ran - c.args.registers.now.ran) _ _ _ _ _ _ _
     Done Done new.turn.note Quiet
     before.invariant.earlier (before_last c.args.registers.now.ran before.registers.ran new.registers.ran before.invariant.least gone.ran)
     tried refl (sym c.obey_at_hand.ensures.quiet)
@@ -125,7 +126,8 @@ returns-then-registers-last-2-clause-tried g c =
     let new = c.obey_next.new in
     let tried : TriesOver mid.turn mid.turn new.turn mid.registers new.registers Done =
     subst (TriesOver mid.turn mid.turn new.turn mid.registers new.registers) c.in-Ok-Done.field-0-is c.in-Ok-Done.ensures.tried in
-    last_by (reach_in c.args.turn.now) (held_in c.args.turn.now) c.args.turn.now.moment c.args.place (before.registers.ran - c.args.registers.now.ran) _ _ _ _ _ _ _
+    last_by (reach_in c.args.turn.now) (held_in c.args.turn.now) c.args.turn.now.moment c.args.place
+    (before.registers.ran - c.args.registers.now.ran) _ _ _ _ _ _ _
     Done Done new.turn.note c.note.result
     before.invariant.earlier (ap (λ (r : Registers). r.ran - c.args.registers.now.ran) (sym left.0))
     (over c.args.turn.now before.turn new.turn before.registers new.registers Done before.invariant.same
