@@ -22,7 +22,7 @@ loop-desk-init c = record {
   };
   few = c.requires.some;
   ran = omega (arith, c.requires.ran);
-  agrees = tt;
+  agrees = c.no_word-held.ensures.agrees (shown c.args.desk.now);
 }
 
 pub returns-then-done-most-clause-tried : goal.returns-then-done-most-clause-tried
