@@ -21,7 +21,7 @@ use crate::{Halt, Progress};
 use kdf_journal::{CALL_LIMIT, Entry, Journal, MOVE_LIMIT};
 use kdf_processor::Step;
 use kdf_service::Service;
-use kdf_yard::{Batch, Program, Remark, Seek, Yard, is_at};
+use kdf_yard::{Batch, Program, Remark, Yard};
 use std::alloc::AllocError;
 
 /// So many calls of a machine with a service, which leave room in the journal for so many events.
@@ -91,19 +91,13 @@ fn enter_at(
     enter_tried(journal, &mut yard.programs[i], quiet, tried)
 }
 
-/// The place at which calls stop where program `i` comes to it, where one is looked for.
+/// The place at which calls stop where program `i` comes to it, if there is one.
 #[inline(always)]
-fn place_of_halt<S: Seek>(yard: &Yard, halt: Halt, i: usize) -> Option<u16>
-    requires there { i < length yard.now.seats }
-    requires seeks { S.seeks ≡ false → halt ≡ Never }
-    ensures place { result ≡ place_for halt (number_in yard.now i) }
-    ensures seeks { S.seeks ≡ false → result ≡ None }
+fn place_of_halt(yard: &Yard, halt: Halt, i: usize) -> Option<u16>
+    requires { i < length yard.now.seats }
+    ensures { result ≡ place_for halt (number_in yard.now i) }
 {
-    if S::seeks() {
-        halt.place(yard.programs[i].p)
-    } else {
-        None
-    }
+    halt.place(yard.programs[i].p)
 }
 
 /// Obeys orders of program `i`, which is next, up to one of which something is noted, that is held, that ends it or
@@ -111,7 +105,7 @@ fn place_of_halt<S: Seek>(yard: &Yard, halt: Halt, i: usize) -> Option<u16>
 /// turn comes. Answers how many calls that were, and what the last did. At Err those that were obeyed are entered,
 /// and the one that had no memory has changed nothing. It is inlined, so that what the loop reads stays at hand.
 #[inline(always)]
-fn take_turns<F: Fn(u64) -> u64, S: Seek>(
+fn take_turns<F: Fn(u64) -> u64>(
     yard: &mut Yard,
     journal: &mut Journal,
     due: &Calls<'_, F>,
@@ -124,7 +118,6 @@ fn take_turns<F: Fn(u64) -> u64, S: Seek>(
     requires some { 0 < due.now.most }
     requires few { calls journal.old.entries + due.now.most ≤ CALL_LIMIT }
     requires inside { halt ≡ Each → ⊥ }
-    requires seeks { S.seeks ≡ false → halt ≡ Never }
     ensures ready { IsReady yard.new journal.new due.now.room }
     ensures made { IfOk result (λ x. HasMadeSomePast (F.post due.now.service.now) halt x.0
         (shown_of yard.old journal.old due.now.room) (shown_of yard.new journal.new due.now.room) x.1) }
@@ -134,7 +127,7 @@ fn take_turns<F: Fn(u64) -> u64, S: Seek>(
 {
     journal.reserve(due.room + 2)?;
     let time = journal.clock();
-    let place = place_of_halt::<S>(yard, halt, i);
+    let place = place_of_halt(yard, halt, i);
     let mut quiet = 0;
     loop {
         let batch = Batch {
@@ -144,9 +137,9 @@ fn take_turns<F: Fn(u64) -> u64, S: Seek>(
             most: due.most - quiet,
             place,
         };
-        let (more, tried) = yard.try_at::<F, S>(batch, due.service);
+        let (more, tried) = yard.try_at(batch, due.service);
         quiet += more;
-        if quiet + 1 < due.most && is_quiet(&tried) && !yard.is_at::<S>(place, i) {
+        if quiet + 1 < due.most && is_quiet(&tried) && !yard.is_at(place, i) {
             quiet += 1;
         } else {
             return enter_at(yard, journal, i, quiet, tried);
@@ -177,7 +170,7 @@ fn wait(yard: &Yard, journal: &mut Journal, most: u32) -> (u32, Progress)
 /// after which they stop, or all, where none can go on. Answers how many, and what the last did. At Err some are
 /// made, and the one that had no memory has changed nothing.
 #[inline(always)]
-pub(crate) fn advance<F: Fn(u64) -> u64, S: Seek>(
+pub(crate) fn advance<F: Fn(u64) -> u64>(
     yard: &mut Yard,
     journal: &mut Journal,
     due: &Calls<'_, F>,
@@ -188,7 +181,6 @@ pub(crate) fn advance<F: Fn(u64) -> u64, S: Seek>(
     requires some { 0 < due.now.most }
     requires few { calls journal.old.entries + due.now.most ≤ CALL_LIMIT }
     requires inside { halt ≡ Each → ⊥ }
-    requires seeks { S.seeks ≡ false → halt ≡ Never }
     ensures ready { IsReady yard.new journal.new due.now.room }
     ensures made { IfOk result (λ x. HasMadeSomePast (F.post due.now.service.now) halt x.0
         (shown_of yard.old journal.old due.now.room) (shown_of yard.new journal.new due.now.room) x.1) }
@@ -197,7 +189,7 @@ pub(crate) fn advance<F: Fn(u64) -> u64, S: Seek>(
         (shown_of yard.old journal.old due.now.room) (shown_of yard.new journal.new due.now.room)) }
 {
     match yard.next_of(journal) {
-        Some(i) => take_turns::<F, S>(yard, journal, due, i, halt),
+        Some(i) => take_turns(yard, journal, due, i, halt),
         None => {
             journal.reserve(due.room + 2)?;
             Ok(wait(yard, journal, due.most))

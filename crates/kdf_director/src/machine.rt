@@ -42,8 +42,8 @@ use kdf_service::Service;
 use kdf_transfer::{Device, Transfer};
 use kdf_word::Word;
 use kdf_yard::{
-    Loaded, Program, Seek, SeeksNone, SeeksPlace, Yard, device_in, is_any_on, is_claimed_in,
-    load_yard, registers_of, stint_in, stints_of, texts_of, window_given, window_of, word_of,
+    Loaded, Program, Yard, device_in, is_any_on, is_claimed_in, load_yard, registers_of, stint_in,
+    stints_of, texts_of, window_given, window_of, word_of,
 };
 use std::alloc::{AllocError, Global};
 use std::marker::Model;
@@ -172,8 +172,10 @@ impl Machine {
     /// Answers what the last did, and leaves the number of those that are left still. At Err some are made, and the one
     /// that had no memory has changed nothing.
     ///
-    /// Calls that stop nowhere are compiled apart from those that stop: no order of a run pays for a place.
-    #[inline(always)]
+    /// Everything that runs a schedule makes its calls here, even one by itself: what obeys an order is compiled into
+    /// this loop, which it would not be if it stood in two. The loop stays apart from its caller, whose values would be
+    /// moved out of its way at each order.
+    #[inline(never)]
     pub fn orders_to<F: Fn(u64) -> u64>(
         &mut self,
         left: &mut u32,
@@ -188,35 +190,6 @@ impl Machine {
         ensures room { self.new.room ≡ self.old.room }
         ensures err { OnErr result (HasMadeButTo (F.post service.now) halt left.old left.new self.old self.new) }
     {
-        match halt {
-            Halt::Never => self.calls_in_yard::<F, SeeksNone>(left, service, halt),
-            Halt::Each | Halt::At { .. } => {
-                self.calls_in_yard::<F, SeeksPlace>(left, service, halt)
-            }
-        }
-    }
-
-    /// The same, in a yard, with a place that may be looked for or with none.
-    ///
-    /// Everything that runs a schedule makes its calls here, even one by itself: what obeys an order is compiled into
-    /// this loop, which it would not be if it stood in two. The loop stays apart from its caller, whose values would be
-    /// moved out of its way at each order.
-    #[inline(never)]
-    fn calls_in_yard<F: Fn(u64) -> u64, S: Seek>(
-        &mut self,
-        left: &mut u32,
-        service: &Service<F>,
-        halt: Halt,
-    ) -> Result<Progress, AllocError>
-        requires service { IsService (F.pre service.now) (F.post service.now) }
-        requires some { 0 < left.old }
-        requires few { calls self.old.journal + left.old ≤ CALL_LIMIT }
-        requires seeks { S.seeks ≡ false → halt ≡ Never }
-        ensures made { IfOk result (HasMadeTo (F.post service.now) halt left.old left.new self.old self.new) }
-        ensures slots { self.new.slots ≡ self.old.slots }
-        ensures room { self.new.room ≡ self.old.room }
-        ensures err { OnErr result (HasMadeButTo (F.post service.now) halt left.old left.new self.old self.new) }
-    {
         let mut yard = Yard {
             alloc: self.alloc,
             windows: self.windows,
@@ -226,7 +199,7 @@ impl Machine {
             places: mem::replace(&mut self.devices, Vec::new(self.alloc)),
         };
         let room = self.room;
-        let made = orders::<F, S>(&mut yard, &mut self.journal, left, service, room, halt);
+        let made = orders(&mut yard, &mut self.journal, left, service, room, halt);
         // What stood in the fields meanwhile is empty and has no memory, so there is nothing to drop.
         let Yard {
             alloc: _,

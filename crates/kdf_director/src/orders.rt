@@ -9,8 +9,6 @@ ghost use Rattle.kdf_director.specs.Fields.Viewed.{shown_of};
 ghost use Rattle.kdf_theory.specs.Next.{lone_dispatched};
 ghost use Rattle.kdf_director.specs.Orders.{HasMadeAll, HasMadeFewer};
 ghost use Rattle.kdf_director.specs.Halts.{HasMadeButTo, HasMadeTo};
-ghost use Rattle.kdf_director.specs.declared.halt.Halt.TheVariants.{Never};
-ghost use Rattle.kdf_director.specs.Runs.{HasMadeButFewer};
 ghost use Rattle.kdf_director.specs.Progressed.{found_live};
 ghost use Rattle.kdf_theory.specs.Served.{IsTrueFor};
 ghost use Rattle.kdf_service.specs.Rules.{IsService};
@@ -20,7 +18,7 @@ use crate::halt::stops;
 use crate::{Halt, Machine, Progress};
 use kdf_journal::{CALL_LIMIT, Journal};
 use kdf_service::Service;
-use kdf_yard::{Seek, SeeksNone, SeeksPlace, Yard};
+use kdf_yard::Yard;
 use std::alloc::AllocError;
 
 /// Whether a call found a program that is live.
@@ -36,46 +34,11 @@ fn found_live(progress: Progress) -> bool
     }
 }
 
-/// Of so many calls that are left, one at least, all, or those up to one that found no live program. Answers what the
-/// last did, and leaves the number of those that are left still. At Err some are made, and the one that had no memory
-/// has changed nothing.
-#[inline(always)]
-fn all_orders<F: Fn(u64) -> u64>(
-    yard: &mut Yard,
-    journal: &mut Journal,
-    left: &mut u32,
-    service: &Service<F>,
-    room: u32,
-) -> Result<Progress, AllocError>
-    requires service { IsService (F.pre service.now) (F.post service.now) }
-    requires ready { IsReady yard.old journal.old room }
-    requires some { 0 < left.old }
-    requires few { calls journal.old.entries + left.old ≤ CALL_LIMIT }
-    ensures ready { IsReady yard.new journal.new room }
-    ensures made { IfOk result (HasMadeTo (F.post service.now) Never left.old left.new
-        (shown_of yard.old journal.old room) (shown_of yard.new journal.new room)) }
-    ensures err { OnErr result (HasMadeButFewer (F.post service.now) left.old
-        (shown_of yard.old journal.old room) (shown_of yard.new journal.new room)) }
-{
-    loop {
-        let calls = Calls {
-            service,
-            room,
-            most: *left,
-        };
-        let (made, progress) = advance::<F, SeeksNone>(yard, journal, &calls, Halt::Never)?;
-        *left -= made;
-        if *left == 0 || !found_live(progress) {
-            return Ok(progress);
-        }
-    }
-}
-
 /// Of so many calls that are left, one at least, those up to one after which they stop, or that found no live program.
 /// Answers what the last did, and leaves the number of those that are left still. At Err some are made, and the one
 /// that had no memory has changed nothing.
 #[inline(always)]
-fn orders_up_to<F: Fn(u64) -> u64>(
+pub(crate) fn orders<F: Fn(u64) -> u64>(
     yard: &mut Yard,
     journal: &mut Journal,
     left: &mut u32,
@@ -100,7 +63,7 @@ fn orders_up_to<F: Fn(u64) -> u64>(
             room,
             most: halt.batch(*left),
         };
-        match advance::<F, SeeksPlace>(yard, journal, &calls, halt.inside()) {
+        match advance(yard, journal, &calls, halt.inside()) {
             Ok((made, progress)) => {
                 *left -= made;
                 if *left == 0 || !found_live(progress) || stops(yard, halt, progress) {
@@ -112,34 +75,6 @@ fn orders_up_to<F: Fn(u64) -> u64>(
                 return Err(error);
             }
         }
-    }
-}
-
-/// The same. Where they stop nowhere, no call pays for a halt that is looked at: those calls are compiled apart.
-#[inline(always)]
-pub(crate) fn orders<F: Fn(u64) -> u64, S: Seek>(
-    yard: &mut Yard,
-    journal: &mut Journal,
-    left: &mut u32,
-    service: &Service<F>,
-    room: u32,
-    halt: Halt,
-) -> Result<Progress, AllocError>
-    requires service { IsService (F.pre service.now) (F.post service.now) }
-    requires ready { IsReady yard.old journal.old room }
-    requires some { 0 < left.old }
-    requires few { calls journal.old.entries + left.old ≤ CALL_LIMIT }
-    requires seeks { S.seeks ≡ false → halt ≡ Never }
-    ensures ready { IsReady yard.new journal.new room }
-    ensures made { IfOk result (HasMadeTo (F.post service.now) halt left.old left.new
-        (shown_of yard.old journal.old room) (shown_of yard.new journal.new room)) }
-    ensures err { OnErr result (HasMadeButTo (F.post service.now) halt left.old left.new
-        (shown_of yard.old journal.old room) (shown_of yard.new journal.new room)) }
-{
-    if S::seeks() {
-        orders_up_to(yard, journal, left, service, room, halt)
-    } else {
-        all_orders(yard, journal, left, service, room)
     }
 }
 

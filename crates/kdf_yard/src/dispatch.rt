@@ -1,9 +1,9 @@
 //! The orders of one program, as long as nothing is noted of them.
-ghost use Rattle.std.specs.Prelude.{◌≡◌, ◌+◌, ◌<◌, ◌≤◌, length, IfNone, IfOk, IfSome, None, OnErr, false};
+ghost use Rattle.std.specs.Prelude.{◌≡◌, ◌+◌, ◌<◌, ◌≤◌, length, IfNone, IfOk, IfSome, OnErr};
 ghost use Rattle.kdf_lockout.specs.Groups.{Cells};
 ghost use Rattle.kdf_processor.specs.Buffered.{Agrees};
 ghost use Rattle.kdf_yard.specs.declared.remark.Remark.TheVariants.{Quiet};
-ghost use Rattle.kdf_yard.specs.Fields.Batches.{of_seat, AreQuiet, HasBatch, Passes};
+ghost use Rattle.kdf_yard.specs.Fields.Batches.{of_seat, is_at, AreQuiet, HasBatch, Passes};
 ghost use Rattle.kdf_yard.specs.Fields.CanTurn.{CanTurn};
 ghost use Rattle.kdf_yard.specs.Fields.Parts.{reach_of, seat_of, window_at};
 ghost use Rattle.kdf_places.specs.Shared.{shared_in};
@@ -17,7 +17,6 @@ ghost use Rattle.kdf_yard.specs.Fields.Turned.{HasRun, HasTried};
 ghost use Rattle.kdf_yard.specs.Fields.Yards.{registers_in, AreLentIn, HasTurnedIn, HasTurnedQuietly};
 
 use crate::machine_port::MachinePort;
-use crate::seek::{Seek, is_at};
 use crate::stint::retire;
 use crate::{Moment, Place, Program, Remark, Stand, Yard};
 use kdf_journal::Journal;
@@ -70,12 +69,23 @@ fn obey_next(
     Ok(step)
 }
 
+/// Whether a program with these registers is at a place.
+#[inline(always)]
+pub(crate) fn is_at(place: Option<u16>, registers: &Registers) -> bool
+    ensures { result ≡ is_at place registers.now }
+{
+    match place {
+        Some(at) => registers.at == at,
+        None => false,
+    }
+}
+
 /// Obeys orders of a live program up to one of which something is noted, that is held, that ends it or that comes to a
 /// place, and at most so many. Answers how many were obeyed before the last, and how the last ended. At Err that had no
 /// memory, and has changed nothing. It is inlined where the view is made: passed on by its address, that would be read
 /// anew by each order.
 #[inline(always)]
-fn obey_quiet<S: Seek>(
+fn obey_quiet(
     registers: &mut Registers,
     turn: &mut MachinePort<'_>,
     most: u32,
@@ -85,7 +95,6 @@ fn obey_quiet<S: Seek>(
     requires some { 0 < most }
     requires ran { registers.old.ran + most ≤ u32.MAX }
     requires quiet { turn.old.note ≡ Quiet }
-    requires seeks { S.seeks ≡ false → place ≡ None }
     ensures tried { IfOk result.1 (λ x. HasBatch of_seat place
         (HasTried (reach_in turn.old) (held_in turn.old) turn.old.moment) result.0
         (seat_in turn.old registers.old) (shared turn.old) (seat_in turn.new registers.new) (shared turn.new) x.0 x.1) }
@@ -101,7 +110,7 @@ fn obey_quiet<S: Seek>(
     loop {
         match obey_at_hand(registers, turn, &mut held) {
             Some(()) => {
-                if registers.ran == last || is_at::<S>(place, registers) {
+                if registers.ran == last || is_at(place, registers) {
                     return (registers.ran - first - 1, Ok((Step::Done, Remark::Quiet)));
                 }
             }
@@ -109,10 +118,7 @@ fn obey_quiet<S: Seek>(
                 let done = registers.ran - first;
                 match obey_next(registers, turn, &mut held) {
                     Ok(Step::Done) => {
-                        if registers.ran == last
-                            || !turn.is_quiet()
-                            || is_at::<S>(place, registers)
-                        {
+                        if registers.ran == last || !turn.is_quiet() || is_at(place, registers) {
                             return (done, Ok((Step::Done, turn.note())));
                         }
                     }
@@ -126,7 +132,7 @@ fn obey_quiet<S: Seek>(
 
 /// Tries orders of a program in its slot at a moment, as `obey_quiet` does.
 #[inline(always)]
-fn try_next<S: Seek>(
+fn try_next(
     stand: &Stand<'_>,
     moment: Moment,
     journal: &Journal,
@@ -140,7 +146,6 @@ fn try_next<S: Seek>(
     requires some { 0 < most }
     requires ran { program.old.registers.ran + most ≤ u32.MAX }
     requires can { CanTurn stand.now.windows.now stand.now.slot.now program.old store.old places.old.items }
-    requires seeks { S.seeks ≡ false → place ≡ None }
     ensures tried { IfOk result.1 (λ x. HasBatch of_seat place
         (HasTried (reach_of stand.now.windows.now stand.now.slot.now) (held_by journal.now.entries) moment) result.0
         (seat_of program.old) (shared_in store.old places.old.items)
@@ -169,7 +174,7 @@ fn try_next<S: Seek>(
         block: &mut block,
         note: Remark::Quiet,
     };
-    obey_quiet::<S>(&mut program.registers, &mut turn, most, place)
+    obey_quiet(&mut program.registers, &mut turn, most, place)
 }
 
 /// Takes the devices of a program that is over out of their places, those of the first to the last of its stints that
@@ -203,7 +208,7 @@ fn settle(alloc: Global, program: &mut Program, places: &mut Vec<Place>)
 /// Tries orders of a program at a moment over what is shared, as `obey_quiet` does, and where the last ended it, takes
 /// back what it had from the pool.
 #[inline(always)]
-pub(crate) fn run<S: Seek>(
+pub(crate) fn run(
     stand: &Stand<'_>,
     moment: Moment,
     journal: &Journal,
@@ -217,7 +222,6 @@ pub(crate) fn run<S: Seek>(
     requires some { 0 < most }
     requires ran { program.old.registers.ran + most ≤ u32.MAX }
     requires can { CanTurn stand.now.windows.now stand.now.slot.now program.old store.old places.old.items }
-    requires seeks { S.seeks ≡ false → place ≡ None }
     ensures ran { IfOk result.1 (λ x. HasBatch of_seat place
         (HasRun (reach_of stand.now.windows.now stand.now.slot.now) (held_by journal.now.entries) moment) result.0
         (seat_of program.old) (shared_in store.old places.old.items)
@@ -230,7 +234,7 @@ pub(crate) fn run<S: Seek>(
     ensures hold { program.new.hold ≡ program.old.hold }
     ensures dry { AreDry places.new.items }
 {
-    let tried = try_next::<S>(stand, moment, journal, program, store, places, most, place);
+    let tried = try_next(stand, moment, journal, program, store, places, most, place);
     settle(stand.alloc, program, places);
     tried
 }
@@ -258,7 +262,7 @@ pub struct Batch<'a> {
 impl Yard {
     /// Tries orders of a batch, as `obey_quiet` does, where this was heard of the service.
     #[inline(always)]
-    pub(crate) fn turn<S: Seek>(
+    pub(crate) fn turn(
         &mut self,
         batch: Batch<'_>,
         heard: Word,
@@ -268,7 +272,6 @@ impl Yard {
         requires some { 0 < batch.most }
         requires ran { (registers_in self.old batch.i).ran + batch.most ≤ u32.MAX }
         requires lent { AreLentIn self.old batch.journal.now.entries }
-        requires seeks { S.seeks ≡ false → batch.place ≡ None }
         ensures turned { IfOk result.1 (λ x. HasTurnedIn (moment batch.entry.time heard) batch.entry.i result.0
             batch.entry.place self.old self.new x.0 x.1) }
         ensures err { OnErr result.1 (HasTurnedQuietly (moment batch.entry.time heard) batch.entry.i result.0
@@ -285,7 +288,7 @@ impl Yard {
             time: batch.time,
             heard,
         };
-        run::<S>(
+        run(
             &stand,
             moment,
             batch.journal,

@@ -13,7 +13,6 @@ mod moves;
 mod next;
 mod program;
 mod remark;
-mod seek;
 mod shown;
 mod site;
 mod slot;
@@ -29,7 +28,6 @@ pub use moves::word_of;
 pub use next::is_any_on;
 pub use program::Program;
 pub use remark::Remark;
-pub use seek::{Seek, SeeksNone, SeeksPlace, is_at};
 pub use shown::{
     device_in, is_claimed_in, registers_of, stint_in, stints_of, texts_of, window_given,
 };

@@ -1,13 +1,12 @@
 //! Orders of a batch: the service may be heard before them.
-ghost use Rattle.std.specs.Prelude.{◌≡◌, ◌+◌, ◌<◌, ◌≤◌, false, length, true, None, IfOk, OnErr};
+ghost use Rattle.std.specs.Prelude.{◌≡◌, ◌+◌, ◌<◌, ◌≤◌, length, true, IfOk, OnErr};
 ghost use Rattle.kdf_service.specs.Rules.{IsService};
 ghost use Rattle.kdf_yard.specs.Fields.Running.{reach_at};
 ghost use Rattle.kdf_yard.specs.Fields.Standing.{IsSameYard};
 ghost use Rattle.kdf_yard.specs.Fields.Yards.{registers_in, AreLentIn, HasTriedIn, HasTriedQuietly};
 ghost use Rattle.kdf_yard.specs.Fields.Batches.{is_at};
 
-use crate::dispatch::Batch;
-use crate::seek::{Seek, is_at};
+use crate::dispatch::{Batch, is_at};
 use crate::{Loaded, Remark, Yard};
 use kdf_processor::{Life, Step};
 use kdf_service::Service;
@@ -43,7 +42,7 @@ impl Yard {
     /// to its place. If one asks the service, the answer is drawn before it. Answers how many were obeyed before the
     /// last, and how the last ended. At Err that had no memory, and has changed nothing.
     #[inline(always)]
-    pub fn try_at<F: Fn(u64) -> u64, S: Seek>(
+    pub fn try_at<F: Fn(u64) -> u64>(
         &mut self,
         batch: Batch<'_>,
         service: &Service<F>,
@@ -54,7 +53,6 @@ impl Yard {
         requires some { 0 < batch.most }
         requires ran { (registers_in self.old batch.i).ran + batch.most ≤ u32.MAX }
         requires lent { AreLentIn self.old batch.journal.now.entries }
-        requires seeks { S.seeks ≡ false → batch.place ≡ None }
         ensures tried { IfOk result.1 (λ x. HasTriedIn (F.post service.now) batch.entry.time batch.entry.i result.0
             batch.entry.place self.old self.new x.0 x.1) }
         ensures err { OnErr result.1 (HasTriedQuietly (F.post service.now) batch.entry.time batch.entry.i result.0
@@ -68,16 +66,15 @@ impl Yard {
             most: self.batch_at(batch.i, batch.most),
             ..batch
         };
-        self.turn::<S>(batch, heard)
+        self.turn(batch, heard)
     }
 
-    /// Whether program `i` is at a place, where one is looked for.
+    /// Whether program `i` is at a place.
     #[inline(always)]
-    pub fn is_at<S: Seek>(&self, place: Option<u16>, i: usize) -> bool
+    pub fn is_at(&self, place: Option<u16>, i: usize) -> bool
         requires there { i < length self.now.seats }
-        requires seeks { S.seeks ≡ false → place ≡ None }
         ensures { result ≡ is_at place (registers_in self.now i) }
     {
-        is_at::<S>(place, &self.programs[i].registers)
+        is_at(place, &self.programs[i].registers)
     }
 }

@@ -32,10 +32,6 @@ module _ (answers : ℕ → ℕ → Type 0) (old : MachineView) where
           all_on = λ found. made_then answers i k old m new h (x.all_on found);
         }
 
-    -- or the next one, or one after it, had no memory
-    pub fewer_more : (n left : ℕ) (new : MachineView) → i + left ≡ n → HasMadeButFewer answers left m new → HasMadeButFewer answers n old new
-    fewer_more n left new all x = let lt = x.1 in (x.0 + i, omega (arith, all), made_then answers i x.0 old m new h x.2)
-
   pub only_made : (n : ℕ) (new : MachineView) → HasMadeButFewer answers n old new → HasMadeFewer answers n old new
   only_made n new x = (x.0, x.1, x.2.made)
 

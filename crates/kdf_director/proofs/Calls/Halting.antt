@@ -85,17 +85,6 @@ module _ (answers : ℕ → ℕ → Type 0) where
               whole;
         }
 
-    -- so they did where they never stop
-    pub made_all_to : (left rest k : ℕ) (new : MachineView) (r : Progress) → HasMadeOn answers i old m → HasMadeSome answers k m new r → k + i + rest ≡ left
-        → (rest ≡ 0) ⊎ (found_live r ≡ false) → HasMadeTo answers Never left rest old new r
-    unfolding some_more
-    made_all_to left rest k new r h x count whole =
-        record { made = k + i; some = some_more answers old i m h k new r x; count = count; passed = tt; whole = ends whole }
-      where
-        ends : (rest ≡ 0) ⊎ (found_live r ≡ false) → (rest ≡ 0) ⊎ ((found_live r ≡ false) ⊎ (stops Never new r ≡ true))
-        ends (inl none) = inl none
-        ends (inr dead) = inr (inl dead)
-
     -- a call without memory, after k of a run
     none_passed : (halt : Halt) (k : ℕ) (new : MachineView) → ArePassed answers halt i old m → (halt ≡ Each → k ≡ 0) → HasMadeOn answers k m new
         → ArePassed answers (halt_inside halt) k m new → ArePassed answers halt (k + i) old new

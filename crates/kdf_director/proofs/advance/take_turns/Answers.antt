@@ -23,13 +23,13 @@ loop-quiet-init g c =
       time = c.clock-time.ensures ∙ ap clock c.reserve.ensures.entries;
     }
 
-pub place_of_halt-place-requires-clause-there : goal.place_of_halt-place-requires-clause-there
-place_of_halt-place-requires-clause-there g c =
+pub place_of_halt-place-requires : goal.place_of_halt-place-requires
+place_of_halt-place-requires g c =
     (begun (λ n a. goal.F-post g c.args.due.now.service.now n a) c.args.yard.now c.args.journal.now c.args.due.now.room c.requires.ready c.args.halt c.args.i
     c.requires.next).course.there
 
-pub is_at-requires-clause-there : goal.is_at-requires-clause-there
-is_at-requires-clause-there g c = omega (arith, c.loop-quiet.invariant.on.course.there, c.try_at-more.ensures.same.many)
+pub is_at-requires : goal.is_at-requires
+is_at-requires g c = omega (arith, c.loop-quiet.invariant.on.course.there, c.try_at-more.ensures.same.many)
 
 pub try_at-more-requires-clause-there : goal.try_at-more-requires-clause-there
 try_at-more-requires-clause-there g c = c.loop-quiet.invariant.on.course.there
@@ -63,9 +63,9 @@ loop-quiet-preserved g c =
           c.requires.inside
           (subst (λ o. IfOk c.try_at-more.result.1
           (λ x. HasTriedIn (λ n a. goal.F-post g c.args.due.now.service.now n a) c.clock-time.result c.args.i c.try_at-more.result.0 o c.loop-quiet.yard
-          c.try_at-more.new.self x.0 x.1)) c.place_of_halt-place.ensures.place c.try_at-more.ensures.tried)
+          c.try_at-more.new.self x.0 x.1)) c.place_of_halt-place.ensures c.try_at-more.ensures.tried)
           (c.is_quiet.ensures c.if-is_quiet.true)
-          (ap (λ o. is_at o (registers_in c.try_at-more.new.self c.args.i)) (sym c.place_of_halt-place.ensures.place) ∙ sym c.if-not-is_at.ensures);
+          (ap (λ o. is_at o (registers_in c.try_at-more.new.self c.args.i)) (sym c.place_of_halt-place.ensures) ∙ sym c.if-not-is_at.ensures);
       left = omega (arith, c.if-quiet-due.true);
       entries = c.loop-quiet.invariant.entries;
       spare = c.loop-quiet.invariant.spare;
@@ -97,10 +97,10 @@ came_to g c =
     c.try_at-more.ensures.same c.try_at-more.result.1 c.clock-time.result c.loop-quiet.invariant.time c.requires.inside
     (subst (λ o. IfOk c.try_at-more.result.1
     (λ x. HasTriedIn (λ n a. goal.F-post g c.args.due.now.service.now n a) c.clock-time.result c.args.i c.try_at-more.result.0 o c.loop-quiet.yard
-    c.try_at-more.new.self x.0 x.1)) c.place_of_halt-place.ensures.place c.try_at-more.ensures.tried)
+    c.try_at-more.new.self x.0 x.1)) c.place_of_halt-place.ensures c.try_at-more.ensures.tried)
     (subst (λ o. OnErr c.try_at-more.result.1
     (HasTriedQuietly (λ n a. goal.F-post g c.args.due.now.service.now n a) c.clock-time.result c.args.i c.try_at-more.result.0 o c.loop-quiet.yard
-    c.try_at-more.new.self)) c.place_of_halt-place.ensures.place c.try_at-more.ensures.err)
+    c.try_at-more.new.self)) c.place_of_halt-place.ensures c.try_at-more.ensures.err)
     c.enter_at.new.yard c.enter_at.ensures.rest c.enter_at.new.journal (omega (arith, c.loop-quiet.invariant.spare, c.enter_at.ensures.spare))
     c.loop-quiet.journal.entries c.loop-quiet.invariant.entries c.enter_at.result c.enter_at.ensures.entered
 

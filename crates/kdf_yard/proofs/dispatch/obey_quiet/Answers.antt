@@ -76,7 +76,7 @@ since_few : (first most ran ran' : ℕ) → first ≤ ran → ran < first + most
 since_few first most ran ran' least few same = omega (arith, least, few, same)
 
 pub returns-then-registers-last-clause-tried : goal.returns-then-registers-last-clause-tried
-returns-then-registers-last-clause-tried g c =
+returns-then-registers-last-clause-tried c =
     let before = c.loop-registers in
     let new = c.obey_at_hand.new in
     let tried = over c.args.turn.now before.turn new.turn before.registers new.registers Done before.invariant.same c.in-Some.ensures.tried in
@@ -88,7 +88,7 @@ returns-then-registers-last-clause-tried g c =
     tried refl (sym c.obey_at_hand.ensures.quiet)
 
 pub loop-registers-smaller-in-Some : goal.loop-registers-smaller-in-Some
-loop-registers-smaller-in-Some g c =
+loop-registers-smaller-in-Some c =
     let before = c.loop-registers in
     let new = c.obey_at_hand.new in
     let gone = went c.args.turn.now before.turn new.turn before.registers new.registers
@@ -96,7 +96,7 @@ loop-registers-smaller-in-Some g c =
     fewer (c.args.registers.now.ran + c.args.most) before.registers.ran new.registers.ran before.invariant.few gone.ran
 
 pub loop-registers-preserved-in-Some : goal.loop-registers-preserved-in-Some
-loop-registers-preserved-in-Some g c =
+loop-registers-preserved-in-Some c =
     let before = c.loop-registers in
     let new = c.obey_at_hand.new in
     let first = c.args.registers.now.ran in
@@ -119,7 +119,7 @@ loop-registers-preserved-in-Some g c =
     }
 
 pub returns-then-registers-last-2-clause-tried : goal.returns-then-registers-last-2-clause-tried
-returns-then-registers-last-2-clause-tried g c =
+returns-then-registers-last-2-clause-tried c =
     let before = c.loop-registers in
     let left = c.in-None.ensures.left in
     let mid = c.obey_at_hand.new in
@@ -135,7 +135,7 @@ returns-then-registers-last-2-clause-tried g c =
     refl c.note.ensures
 
 pub loop-registers-smaller : goal.loop-registers-smaller
-loop-registers-smaller g c =
+loop-registers-smaller c =
     let before = c.loop-registers in
     let left = c.in-None.ensures.left in
     let mid = c.obey_at_hand.new in
@@ -148,7 +148,7 @@ loop-registers-smaller g c =
     fewer (c.args.registers.now.ran + c.args.most) before.registers.ran new.registers.ran before.invariant.few gone.ran
 
 pub loop-registers-preserved : goal.loop-registers-preserved
-loop-registers-preserved g c =
+loop-registers-preserved c =
     let before = c.loop-registers in
     let left = c.in-None.ensures.left in
     let mid = c.obey_at_hand.new in
@@ -179,7 +179,7 @@ loop-registers-preserved g c =
     }
 
 pub returns-in-Ok : goal.returns-in-Ok
-returns-in-Ok g c =
+returns-in-Ok c =
     let before = c.loop-registers in
     let left = c.in-None.ensures.left in
     let mid = c.obey_at_hand.new in

@@ -8,7 +8,7 @@ use Rattle.kdf_yard.specs.Fields.Turned.{HasTried}
 use Rattle.kdf_yard.proofs.dispatch.obey_quiet.Given as goal
 
 abbrev pub invariant-loop-registers : goal.invariant-loop-registers
-invariant-loop-registers g l =
+invariant-loop-registers l =
     record {
       same : SameProgram l.fn.turn l.turn;
       live : l.registers.state ≡ life.Live;
@@ -24,4 +24,4 @@ invariant-loop-registers g l =
     }
 
 abbrev pub decreases-loop-registers : goal.decreases-loop-registers
-decreases-loop-registers g l = l.last - l.registers.ran
+decreases-loop-registers l = l.last - l.registers.ran

@@ -9,7 +9,7 @@ use Rattle.kdf_yard.proofs.dispatch.try_next.Goals as goal
 
 -- what was lent ends as the turn leaves it
 pub returns-clause-tried : goal.returns-clause-tried
-returns-clause-tried g c =
+returns-clause-tried c =
     let kept = c.obey_quiet.ensures.same in
     if_ok c.obey_quiet.result.1 _ _
     (λ x h. lent_over (λ r m a s b l. HasBatch of_seat c.args.place (HasTried r (held_by c.args.journal.now.entries) m) c.obey_quiet.result.0 a s b l x.0 x.1)
@@ -20,7 +20,7 @@ returns-clause-tried g c =
     c.obey_quiet.ensures.tried
 
 pub returns-clause-err : goal.returns-clause-err
-returns-clause-err g c =
+returns-clause-err c =
     let kept = c.obey_quiet.ensures.same in
     on_err c.obey_quiet.result.1 _ _
     (lent_over (λ r m a s b l. AreQuiet (Passes of_seat c.args.place (HasTried r (held_by c.args.journal.now.entries) m)) c.obey_quiet.result.0 a s b l)

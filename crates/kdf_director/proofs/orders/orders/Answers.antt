@@ -7,9 +7,9 @@ use Rattle.kdf_director.proofs.Calls.CallsInTurn.{some_more}
 use Rattle.kdf_director.proofs.Calls.Halting.{but_to, made_to, passed_more, passed_none}
 use Rattle.kdf_director.proofs.Linking.EventsEntered.{shown_seen}
 use Rattle.kdf_director.proofs.Linking.Halted.{stops_same}
-use Rattle.kdf_director.proofs.orders.orders_up_to.Goals as goal
-use Rattle.kdf_director.proofs.orders.orders_up_to.Goals.{then-left-eq0-via-then-left-eq0, then-left-eq0-via-else-left-eq0+then-not-found_live}
-use Rattle.kdf_director.proofs.orders.orders_up_to.Goals.{then-left-eq0-via-else-left-eq0+else-not-found_live+then-stops}
+use Rattle.kdf_director.proofs.orders.orders.Goals as goal
+use Rattle.kdf_director.proofs.orders.orders.Goals.{then-left-eq0-via-then-left-eq0, then-left-eq0-via-else-left-eq0+then-not-found_live}
+use Rattle.kdf_director.proofs.orders.orders.Goals.{then-left-eq0-via-else-left-eq0+else-not-found_live+then-stops}
 
 pub loop-made-init : goal.loop-made-init
 loop-made-init g c =

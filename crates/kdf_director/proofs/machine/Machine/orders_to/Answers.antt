@@ -10,8 +10,8 @@ use Rattle.kdf_director.proofs.Calls.CallsAtOnce.{at_four}
 use Rattle.kdf_director.proofs.Calls.CallsInTurn.{lived}
 use Rattle.kdf_director.proofs.Linking.MachineLends.{windows_same}
 use Rattle.kdf_theory.proofs.Results.{if_ok, on_either, on_err}
-use Rattle.kdf_director.proofs.machine.Machine.calls_in_yard.Given.{Over}
-use Rattle.kdf_director.proofs.machine.Machine.calls_in_yard.Goals as goal
+use Rattle.kdf_director.proofs.machine.Machine.orders_to.Given.{Over}
+use Rattle.kdf_director.proofs.machine.Machine.orders_to.Goals as goal
 
 pub invariant_of-yard : goal.invariant_of-yard
 invariant_of-yard g c =
