@@ -21,6 +21,12 @@ SHOWN = ("kdf_lockout.Groups.is_out", "kdf_lockout", "kdf_theory.MachineView", "
 # From a step of the theorem to what TOB does.
 OF_TOB = "kdf_arith.obey.obey_arith", "kdf_arith.Digits.to_binary"
 
+# What a reader may look for, and where the first of what is found leads.
+SOUGHT = [
+    ("lockout", "word-lockout-lease"), ("recorded answer", "word-recorded-answer"), ("headline", "said-the-headline"), ("axiom", "question-in-which-logic-is-it-proved-and-with-which-axioms"), ("trusted", "trusted"),
+    ("two worlds", "kdf_report.laws.two_worlds"), ("hold-ups", "rule-"), ("seen", "kdf_theory.Seen.seen"), ("IsMachineOf", "kdf_top.Due.IsMachineOf"), ("TOB", "kdf_arith.Rows.arith_row"),
+]
+
 # From the theorem, the words that are chosen one after the other, and the definition to which they lead.
 WALKS = [
     (["kdf_theory.Flights.touches"], "touches"),
@@ -191,6 +197,29 @@ def keys_do_all(running: Browser, file: pathlib.Path) -> Cases:
     page.close()
 
 
+def seek(page: Any, text: str) -> None:
+    """Types a text into the search."""
+    page.js(f"(() => {{ const it = document.getElementById('sought'); it.focus(); it.value = {json.dumps(text)}; it.dispatchEvent(new Event('input')); }})()")
+
+
+def words_are_found(running: Browser, file: pathlib.Path) -> Cases:
+    """The search finds what the page says in words too, marks the row of an order, and is gone when the reader goes on."""
+    page = opened(running, file)
+    for text, first in SOUGHT:
+        seek(page, text)
+        got = page.js("decodeURIComponent(document.querySelector('#found a')?.hash.slice(1) ?? '')")
+        yield f"what is found for {text}", None if got.startswith(first) else f"is {got!r}"
+    for order in ("TOB", "DIVI", "=LINK"):
+        seek(page, order)
+        page.js("document.querySelector('#found a').click()")
+        page.wait(f"[...document.querySelectorAll('#entry-card .remark.here')].map((it) => it.textContent).join() === {json.dumps(f'-- {order}')}")
+        yield f"the row of {order}", None
+    seek(page, "seen")
+    page.js("document.getElementById('entry-title').click()")
+    yield "the search when another place is clicked", None if page.js("document.getElementById('found').hidden") else "is still there"
+    page.close()
+
+
 def picture_goes_on(running: Browser, file: pathlib.Path) -> Cases:
     """On a telephone the picture of the map is scrolled by keys in a box of its own, with a shade at the edge where it goes on."""
     page = running.open(f"file://{file}#map", 390, 844)
@@ -271,7 +300,7 @@ def in_chromium(file: pathlib.Path, data: Any) -> Cases:
     with Browser() as running:
         for suite in (
             walks_lead_there(running, file, WALKS, "Chromium"), definitions_open_in_place(running, file, data), names_open_by_address(running, file), all_links_lead_somewhere(running, file),
-            all_texts_are_drawn_as_they_are(running, file, data), keys_do_all(running, file), picture_goes_on(running, file), all_can_be_read(running, file), all_has_its_name(running, file), nothing_was_asked_for(running, file),
+            all_texts_are_drawn_as_they_are(running, file, data), keys_do_all(running, file), words_are_found(running, file), picture_goes_on(running, file), all_can_be_read(running, file), all_has_its_name(running, file), nothing_was_asked_for(running, file),
         ):
             try:
                 yield from suite

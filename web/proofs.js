@@ -15,7 +15,7 @@ const KINDS = {
   notation: "word of clauses", ghost: "what contracts see", crate: "crate", module: "module of definitions",
 };
 const believed = new Set(data.lists.definitions);
-const MOST_LISTED = 80, OPENING_PART = "theorem";
+const MOST_LISTED = 80, MOST_FOUND = 40, OPENING_PART = "theorem", OF_THIS_PAGE = "word of this page";
 
 const addressOf = (key) => `#${encodeURIComponent(key)}`;
 const whole = (number) => entries[number].p ?? number;
@@ -215,11 +215,11 @@ function fill(view) {
   for (const place of view.querySelectorAll("[data-list]")) place.append(...listOf(data.lists[place.dataset.list], place.dataset.list));
 }
 
-/** A list of entries, each of which opens; definitions stand under the names of their crates and modules. */
+/** A list of entries, each of which opens; definitions and types stand under the names of their crates, definitions under those of their modules too. */
 function listOf(list, name) {
-  if (name !== "definitions") return entryRows(list);
+  if (name !== "definitions" && name !== "code") return entryRows(list);
   const crates = [...new Set(list.map(crateOf))].map((crate) => [crate, list.filter((number) => crateOf(number) === crate)]);
-  return crates.map(([crate, own]) => unfolding(`${crate}: ${own.length}`, () => entryRows(own, true)));
+  return crates.map(([crate, own]) => unfolding(`${crate}: ${own.length}`, () => entryRows(own, name === "definitions")));
 }
 
 const crateOf = (number) => entries[number].m.split(".")[0];
@@ -274,6 +274,20 @@ function show(place, isNew = false) {
   const last = openers.at(-1);
   if (isNew || openers.length > same) focusOn(last ? last.card.querySelector("h3") : null, place);
   else closed?.link?.focus();
+  markRow();
+}
+
+// The order of which a reader has chosen the name, until its row is marked.
+let orderChosen = "";
+
+/** Marks the row of the order that was chosen in the definition that is shown, by the remark with its name, and brings it into view. */
+function markRow() {
+  const written = [orderChosen, orderChosen.replace(/q$/, ""), orderChosen.replace("Jr", "J")];
+  const remarks = orderChosen && shown.view === "entry" ? [...byId("entry-card").querySelectorAll(".remark")] : [];
+  const rows = remarks.filter((it) => written.includes(it.textContent.replace(/^-- /, "")));
+  for (const it of remarks) it.classList.toggle("here", rows.includes(it));
+  rows[0]?.scrollIntoView({ block: "center" });
+  orderChosen = "";
 }
 
 /** Puts the focus on a heading, and brings it into view. */
@@ -351,6 +365,7 @@ function showTrail(place) {
     if (at === items.length - 1) link.setAttribute("aria-current", "true");
     return make("li", {}, link);
   }));
+  byId("trail").firstElementChild.scrollTop = byId("trail").firstElementChild.scrollHeight;
 }
 
 /** Where a chosen word stands: how deep in the trail, in which block, and in what that had to be opened first. */
@@ -372,10 +387,13 @@ addEventListener("click", (event) => {
   const bound = event.target.closest(".bound");
   for (const it of document.querySelectorAll(".bound.same")) it.classList.remove("same");
   if (bound) markSame(bound);
+  if (!event.target.closest("search")) hideFound();
   const link = event.target.closest("a");
   if (!link?.hash || event.ctrlKey || event.metaKey || event.shiftKey || event.button) return;
   const key = decodeURIComponent(link.hash.slice(1));
   if (link.closest("#found")) clearSearch();
+  orderChosen = link.dataset.order ?? "";
+  if (link.hash === location.hash) markRow();
   if (!numberByKey.has(key) || !link.closest(".block") || link.classList.contains("alone")) return;
   event.preventDefault();
   if (link.classList.contains("open")) { leave(openers.findIndex((opener) => opener.link === link)); return; }
@@ -393,19 +411,52 @@ addEventListener("keydown", (event) => {
 
 // ---- search
 
-const names = entries.flatMap((entry, number) => (entry.t === "example" || (entry.p !== undefined && entry.n === entries[entry.p].n) ? [] : [{ name: entry.n, key: entry.k, says: KINDS[entry.t], of: entry.m ?? entries[entry.p]?.k ?? "", rank: number }]))
-  .concat(data.orders.map(([name, number]) => ({ name, key: entries[number].k, says: "order", of: entries[number].k, rank: 0 })))
-  .concat(Object.keys(data.modules).map((key) => ({ name: key, key, says: KINDS.module, of: "", rank: 0 })), data.crates.filter((crate) => crate.state !== "trusted").map((crate) => ({ name: crate.name, key: crate.name, says: KINDS.crate, of: "", rank: 0 })));
+// A module whose definitions only help to write examples.
+const HELPER = /\.(Worked|\w*Examples)$/;
 
-/** The names that have a text in them: first those that are it, then those that begin with it. */
+/** What the search finds: its name, where it leads, what it is, and what is said of it. */
+const named = (name, key, says, more = {}) => ({ name, key, says, of: "", rank: 0, ...more, text: (more.text ?? "").toLowerCase().replace(/\s+/g, " ") });
+
+/** The names of a passage: a word with a meaning of its own may have several. */
+const namesOf = ({ dataset }) => (dataset.as === OF_THIS_PAGE ? dataset.name.split(", ") : [dataset.name]);
+
+const names = [
+  ...entries.flatMap((entry, number) => {
+    const of = entries[entry.p];
+    if (entry.t === "example" || entry.n === of?.n) return [];
+    return [named(entry.n, entry.k, KINDS[entry.t], { of: entry.m ?? of?.k, rank: number, text: entry.s, isPart: Boolean(of) || HELPER.test(entry.m), isBelieved: believed.has(number) })];
+  }),
+  ...data.orders.map(([name, number]) => named(name, entries[number].k, "order", { of: entries[number].k, order: name, isBelieved: true })),
+  ...Object.entries(data.modules).map(([key, { s }]) => named(key, key, KINDS.module, { text: s })),
+  ...data.crates.filter(({ state }) => state !== "trusted").map(({ name, says }) => named(name, name, KINDS.crate, { text: says })),
+  ...[...document.querySelectorAll("[data-as]")].flatMap((it) => {
+    const text = it.textContent + (it.tagName === "DT" ? it.nextElementSibling.textContent : "");
+    return namesOf(it).map((name) => named(name, it.id, it.dataset.as, { text, isWord: true }));
+  }),
+];
+
+/** A text as its words, with a space before each and after the last. */
+const asWords = (text) => ` ${text.replace(/[^a-z0-9]+/g, " ")} `;
+
+/** How good a name is as what is sought: 0 if it is that, or 0.7 as a part of an entry, 0.5 if it is one in words that has its words, 1 to 3 if it begins with it, has it, or has it in its address, 4 if what is said of it has it, and none otherwise. */
+function fit({ name, key, text, isWord, isPart }, sought) {
+  const own = name.toLowerCase(), places = [own.indexOf(sought), own.indexOf(sought.replaceAll(" ", "_"))];
+  if (own === sought || own === sought.replaceAll(" ", "_")) return isPart ? .7 : 0;
+  if (isWord && asWords(own).includes(asWords(sought))) return .5;
+  if (places.includes(0)) return 1;
+  if (Math.max(...places) > 0) return 2;
+  if (key.toLowerCase().includes(sought)) return 3;
+  return text.includes(sought) ? 4 : undefined;
+}
+
+/** Which of two names that fit equally comes first: a word of the page, what the theorem reaches, any other, and last the parts of entries and what examples are written with. */
+const precedence = ({ isWord, isPart, isBelieved }) => (isWord ? 0 : isPart ? 3 : isBelieved ? 1 : 2);
+
+/** What is found for a text: first the names that are it, then those that begin with it, and last those of which something is said that has it. */
 function namesWith(text) {
   const sought = text.toLowerCase();
-  const found = names.flatMap((each) => {
-    const name = each.name.toLowerCase(), at = name.indexOf(sought);
-    const where = at < 0 && !each.key.toLowerCase().includes(sought) ? -1 : name === sought ? 0 : at === 0 ? 1 : at > 0 ? 2 : 3;
-    return where < 0 ? [] : [{ each, where }];
-  });
-  return found.sort((one, other) => one.where - other.where || one.each.name.length - other.each.name.length || one.each.rank - other.each.rank).map(({ each }) => each);
+  const found = names.map((each) => ({ each, fits: fit(each, sought) })).filter(({ fits }) => fits !== undefined);
+  return found.sort((one, other) => one.fits - other.fits || precedence(one.each) - precedence(other.each) || one.each.name.length - other.each.name.length || one.each.rank - other.each.rank).map(({ each }) => each);
 }
 
 function hideFound() {
@@ -419,18 +470,24 @@ function clearSearch() {
   hideFound();
 }
 
-byId("sought").addEventListener("input", () => {
+/** Shows what is found for the text of the search. */
+function showFound() {
   const text = byId("sought").value.trim(), found = text ? namesWith(text) : [];
   byId("found").hidden = !text;
-  byId("found-said").textContent = text ? `${found.length} names` : "";
-  byId("found").replaceChildren(...found.slice(0, 40).map((each) => make("li", {}, make("a", { href: addressOf(each.key) }, make("code", {}, each.name), make("span", {}, ` ${each.says}${each.of ? `, ${each.of}` : ""}`)))));
-  if (text && !found.length) byId("found").append(make("li", { class: "note" }, "No name has this in it."));
-});
+  byId("found-said").textContent = text ? `${found.length} found` : "";
+  byId("found").replaceChildren(...found.slice(0, MOST_FOUND).map((each) => make("li", {}, make("a", { href: addressOf(each.key), "data-order": each.order }, make("code", {}, each.name), make("span", {}, ` ${each.says}${each.of ? `, ${each.of}` : ""}`)))));
+  const rest = found.length - MOST_FOUND;
+  if (text && (rest > 0 || !found.length)) byId("found").append(make("li", { class: "note" }, rest > 0 ? `and ${rest} more` : "Nothing here has this in it."));
+}
+
+byId("sought").addEventListener("input", showFound);
+byId("sought").addEventListener("click", showFound);
+byId("sought").closest("search").addEventListener("focusout", (event) => { if (event.relatedTarget && !event.relatedTarget.closest("search")) hideFound(); });
 
 byId("sought").addEventListener("keydown", (event) => {
   const first = byId("found").querySelector("a");
   if (event.key === "Enter" && first) first.click();
-  else if (event.key === "ArrowDown" && first) { event.preventDefault(); first.focus(); }
+  else if (event.key === "ArrowDown" && first) { event.preventDefault(); byId("found").hidden = false; first.focus(); }
 });
 
 byId("found").addEventListener("keydown", (event) => {

@@ -165,4 +165,4 @@ UNPROVED = (
 def unproved(proofs: str, linked: Linked) -> Iterator[Tuple[str, str, str]]:
     """What isn't proved, as HTML: the title and the kind of each part."""
     for name, kind, title in UNPROVED:
-        yield title, kind, prose(own_part(proofs, name), linked)
+        yield title, kind, prose(section(proofs, name), linked)

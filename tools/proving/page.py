@@ -22,6 +22,9 @@ PARTS = {"theorem": "The theorem", "map": "The map", "believe": "What must I bel
 # The kinds of entries that are words of the library, and that are types of the code.
 LIBRARY, NOTATION, CODE = ("library",), ("notation",), ("struct", "enum", "const", "trait", "type")
 
+# The crates whose definitions say how a job and its decks are read.
+READING = ("kdf_job", "kdf_usercode", "kdf_place")
+
 # Of a crate, so many of its longest files of proofs are named, each with at least so many lines.
 LONGEST, LONG = 3, 100
 
@@ -29,6 +32,16 @@ LONGEST, LONG = 3, 100
 def counted(number: int, what: str) -> str:
     """So many of something."""
     return f"{number} {what}{'' if number == 1 else 's'}"
+
+
+def slug(name: str) -> str:
+    """A name as a part of an address."""
+    return re.sub(r"\W+", "-", name.lower()).strip("-")
+
+
+def found_as(kind: str, name: str, of: str = "") -> str:
+    """The attributes of an element that the search finds: its id, which begins with its kind or with `of`, its name, and what it is."""
+    return f'id="{of or kind}-{slug(name)}" data-name="{html.escape(name.replace("`", ""))}" data-as="{kind}"'
 
 
 def lines_of(folder: pathlib.Path, pattern: str) -> Dict[pathlib.Path, int]:
@@ -68,7 +81,7 @@ class Site:
         self.crates = drawing.crates(self.text("crates.txt"), self.tested(), {file.crate for file in self.world.files.values()})
         self.reach = reached(self.reader, TOP)
         self.order = definition_order(self.reader, self.reach, [name for row in drawing.rows_of(self.crates) for name in row])
-        for _, key in self.tables["words"]:
+        for key in [*(key for _, key in self.tables["words"] + self.tables["first"]), *(key for meaning in self.tables["meanings"] for key in meaning[2:])]:
             self.reader.number(key)
         self.orders = orders(self.reader, [row["name"] for row in json.loads(self.text("tables/orders.json"))["orders"]])
         self.codes = self.named_once()
@@ -117,7 +130,11 @@ class Site:
     def linked_order(self, word: str, _of: str = "") -> str:
         """A word of the code in a rule: a link to what an order does, if it is the name of one. A sign by itself may mean something else."""
         key = self.orders.get(word) if re.search(r"\w", word) else None
-        return f'<a href="#{html.escape(key)}">{documents.plain(word)}</a>' if key else documents.plain(word)
+        return f'<a href="#{html.escape(key)}" data-order="{html.escape(word)}">{documents.plain(word)}</a>' if key else documents.plain(word)
+
+    def keys(self, keys: List[str]) -> str:
+        """Links to the definitions of these names."""
+        return "".join(f' <a href="#{html.escape(key)}"><code>{html.escape(re.split(r"[.:]", key)[-1])}</code></a>' for key in keys)
 
     def headline(self) -> Tuple[str, str]:
         """The theorem in a sentence, and what is said after it, with the words that stand for definitions as links."""
@@ -139,17 +156,19 @@ class Site:
         rows = documents.clauses_in_words(proofs)
         laws = documents.prose(documents.laws(proofs), self.linked)
         top = self.reader.entries[self.reader.numbers[TOP]]
+        first = ", ".join(f'<a href="#{html.escape(key)}">{says}</a>' for says, key in self.tables["first"])
         before = [clause["n"] for clause in top["c"] if clause["k"] == "requires"]
         parts = [
-            "<p><code>kdf9</code> is a computer modelled on the English Electric KDF9. It is handed a job: up to four programs, each with its store and devices, and a schedule that says how they take turns. It runs them, and writes a report. It is written in Rattle, which is Rust with contracts.</p>",
-            f'<p class="headline block">{once}</p><p class="more-of-it block">{more}</p>',
+            "<p><code>kdf9</code> is a computer modelled on the English Electric KDF9. It is handed a job: up to four programs, each with its store and devices, and a schedule, which says how far the run goes and when transfers move and end. It runs them, and writes a report. It is written in Rattle, which is Rust with contracts.</p>",
+            f'<p class="headline block" {found_as("part of this page", "The headline", "said")}>{once}</p><p class="more-of-it block" {found_as("word of this page", "recorded answer", "word")}>{more}</p>',
             "<p>A program may also go on for ever. What it “ends with” is what it has when the run stops: the same as its run alone has after as many orders. Of a transfer that is still in flight then, the device and the words that have still to move are shown as its order found them. "
             "The theorem doesn't say that a program ends, or gets its turn.</p>",
             f"<p>It is a theorem about <code>kdf9</code> as it is shipped: {len(self.order):,} definitions say what its words mean, and it is proved that the code meets them. <a href=\"#believe\">What must I believe?</a> has what is only tested or trusted. "
             'Choose a word to open its definition below it, and a word of that, down to whole numbers and lists. <a href="#help">How to read this</a> says what job, journal, order and call mean here.</p>',
-            f'<h2>The heart of it</h2><p>If a job has no fault, and neither memory nor reading nor writing fails, a run of it makes a machine of which this holds.</p><div data-entry="{HEART}"></div>',
-            f"<h2>Its steps</h2><p>Each step rests on those below it.</p>{self.steps()}",
-            f"<h2>Three laws that it gives</h2>{laws}",
+            f'<h2>The heart of it</h2><p>If a job has no fault, and neither memory nor reading nor writing fails, a run of it makes a machine of which this holds.</p><div data-entry="{HEART}"></div>'
+            f'<p class="block">Its words lead to all the rest. Read these first: {first}.</p>',
+            f"<h2>Its steps</h2><p>Each step rests on those below it, but for the laws, which are proved of the definitions alone.</p>{self.steps()}",
+            f"<h2>Three laws that say what it is worth</h2>{laws}",
             f'<h2>The theorem, clause by clause</h2>{documents.prose(documents.paragraph(proofs, "The program makes one call"), self.linked)}'
             "<p>This is the head of the call. After it come the clauses of its contract, in plain words first.</p>"
             '<div data-clauses="head"></div>',
@@ -171,8 +190,7 @@ class Site:
             target = step.get("at") or step["of"][0]
             drawn.append((step["name"], step["state"], target))
             says = step.get("says") or documents.first_sentence(documents.paragraph(self.text(PROOFS), step["said"]))
-            keys = "".join(f' <a href="#{html.escape(key)}"><code>{html.escape(re.split(r"[.:]", key)[-1])}</code></a>' for key in step["of"])
-            said.append(f'<li><strong>{step["name"]}</strong> <span class="state {step["state"]}">{step["state"]}</span><br>{documents.inline(says, self.linked)}{keys}</li>')
+            said.append(f'<li><strong>{step["name"]}</strong> <span class="state {step["state"]}">{step["state"]}</span><br>{documents.inline(says, self.linked)}{self.keys(step["of"])}</li>')
         return f'<div class="ladder"><div class="drawing">{drawing.picture_of_steps(drawn)}</div><ol reversed>{"".join(said)}</ol></div>'
 
     def map(self) -> str:
@@ -192,21 +210,23 @@ class Site:
 
     def believe(self) -> str:
         """The part with what is believed, and what isn't proved."""
+        reading = sum(self.reader.entries[number]["m"].startswith(tuple(f"{crate}." for crate in READING)) for number in self.lists()["definitions"])
         kit = html.escape(re.findall(r"^Proved with `([^`]+)`", self.text(PROOFS), re.MULTILINE)[0])
         parts = [
             f'<p class="count">To believe the theorem, read these <strong>{len(self.order):,} definitions</strong>, and see that they say what you think they say. They are all that its contract reaches, and nothing else.</p>'
-            "<p>You need not read the code or its proofs: the prover has checked, for every input that a contract allows, that the code does what the definitions say. A definition comes after those that it cites.</p>",
+            "<p>You need not read the code or its proofs: the prover has checked, for every input that a contract allows, that the code does what the definitions say. A definition comes after those that it cites. "
+            f'{reading} of them only say how a job and its decks are read; <a href="#theorem">The theorem</a> names those to read first.</p>',
             f"<p>The prover is that of the Rattle kit, <code>{kit}</code>. It isn't part of this page, which is made from the sources and proves nothing itself. With the kit, <code>./kdf9 --proved</code> waits until <code>kdf9</code> is proved and built, "
             "and says whether it was proved on your machine.</p>",
             f"<p>{len(self.lists()['code'])} types and constants of the code stand in them, and {len(self.lists()['library'])} words of the library; both are below the definitions.</p>",
-            '<p>Of the machine that the call answers, its contract says what is shown. The calls of <a href="#kdf_director"><code>kdf_director</code></a>, such as '
-            '<a href="#kdf_director.machine.Machine::word"><code>Machine::word</code></a>, say how a caller sees that.</p>',
+            '<p>Where a job was run, the call also hands over the machine that ran it. Its contract says what that machine shows; a caller sees it by the calls of <a href="#kdf_director"><code>kdf_director</code></a>, such as '
+            '<a href="#kdf_director.machine.Machine::word"><code>Machine::word</code></a>, which have contracts of their own.</p>',
             "<h2>What isn't proved</h2><p>In short: it is only tested that memory suffices, and what passes through standard input and output. By the contract alone, <code>Memory</code> could be the answer each time.</p>",
         ]
-        questions = "".join(f"<dt>{documents.inline(asked, self.linked)}</dt><dd>{documents.inline(answer, self.linked)}</dd>" for asked, answer in self.tables["questions"])
+        questions = "".join(f"<dt {found_as('question', asked)}>{documents.inline(asked, self.linked)}</dt><dd>{documents.inline(answer, self.linked)}</dd>" for asked, answer in self.tables["questions"])
         for title, kind, text in documents.unproved(self.text(PROOFS), self.linked):
             state = f' <span class="state {kind}">{kind}</span>' if kind != "neither" else ""
-            parts.append(f'<details class="unproved" id="{kind}"><summary>{title}{state}</summary>{text}</details>')
+            parts.append(f'<details class="unproved" id="{kind}" data-name="{title}" data-as="part of this page"><summary>{title}{state}</summary>{text}</details>')
         parts.append(f"<h2>What readers have asked</h2><dl>{questions}</dl>")
         for name, title in (("definitions", "The definitions, in the sequence in which to read them"), ("code", "The types of the code that they use"), ("library", "The words of the library"), ("notation", "The words that clauses are written in")):
             parts.append(f'<h2>{title}</h2><div data-list="{name}"></div>')
@@ -230,21 +250,25 @@ class Site:
     def rules(self) -> str:
         """The part with the rules that definitions state."""
         parts = ["<p>These sections of the documents say for people what definitions say for the prover. Each stands beside its definitions too.</p>"]
-        for number, (path, name, text) in enumerate(documents.rules(self.root, self.tables["rules"], self.linked_order)):
+        rules = list(documents.rules(self.root, self.tables["rules"], self.linked_order))
+        for document in sorted({path for path, _, _ in rules}):
+            names = "".join(f'<li><a href="#rule-{number}">{documents.inline(name)}</a></li>' for number, (path, name, _) in enumerate(rules) if path == document)
+            parts.append(f'<p class="note">{document}</p><ul class="list">{names}</ul>')
+        for number, (path, name, text) in enumerate(rules):
             of = [module for module, rule in self.tables["rules"].items() if rule == f"{path}: {name}"]
             modules = ", ".join(f'<a href="#{module}"><code>{module}</code></a>' for module in of)
             parts.append(
-                f'<section id="rule-{number}"><h2>{documents.inline(name)}</h2><p class="note">{path}, stated by {modules}</p><div class="text">{text}</div></section>')
+                f'<section id="rule-{number}" data-name="{html.escape(name.replace("`", ""))}" data-as="rule"><h2>{documents.inline(name)}</h2><p class="note">{path}, stated by {modules}</p><div class="text">{text}</div></section>')
         return "".join(parts)
 
     def help(self) -> str:
         """The part that says how to read the page."""
-        meanings = "".join(f"<li><strong>{word}</strong>: {documents.inline(says, self.linked)}</li>" for word, says in self.tables["meanings"])
+        meanings = "".join(f"<li {found_as('word of this page', word, 'word')}><strong>{word}</strong>: {documents.inline(says, self.linked)}{self.keys(keys)}</li>" for word, says, *keys in self.tables["meanings"])
         return (
             "<p>A clause says what comes of a call, in a language of types: each statement is a type, and a proof is a value of it. A word of a clause is a link. It opens what it means below the clause, and a word of that does the same. "
             "The trail on top says how you came there: choose a step of it to go back, or use the button Back of the browser, or Escape.</p>"
-            "<p>A word in <i>this</i> colour is a definition; words of the library, types of the code, and variables have colours of their own. If you choose a variable, each place where it stands is marked. "
-            "A name in the address, such as <code>#kdf_lockout.Groups.is_out</code>, opens that definition by itself. The key <kbd>/</kbd> goes to the search.</p>"
+            '<p>A word like <code class="of-word">this</code> is a definition, like <code class="of-library">this</code> a word of the library, like <code class="of-code">this</code> a type of the code, and like <code class="bound">this</code> a variable. If you choose a variable, each place where it stands is marked. '
+            "A name in the address, such as <code>#kdf_lockout.Groups.is_out</code>, opens that definition by itself. The key <kbd>/</kbd> goes to the search, which finds names, and also what is said of them.</p>"
             "<p><code>abbrev</code> and <code>unfoldable</code> say when the prover puts a definition in place of its name, and <code>pub</code> that other files use it: none of them changes what it means. A name with a dot, such as <code>course.IsWhole</code>, is that of another file.</p>"
             "<p><span class=\"state proved\">proved</span> means that the prover has checked that the code meets its contracts, for every input that they allow; <span class=\"state tested\">tested</span> that only tests do; <span class=\"state trusted\">trusted</span> that it is believed. A contract is what a call says of its results, clause by clause; a law is proved of definitions alone.</p>"
             f"<h2>Words with a meaning of their own</h2><ul>{meanings}</ul>"
@@ -290,7 +314,7 @@ class Site:
     def page(self) -> str:
         """The page."""
         views = "".join(
-            f'<section class="view" id="part-{name}" aria-labelledby="{name}-title"><h1 id="{name}-title" tabindex="-1">{title}</h1>{getattr(self, name)()}</section>'
+            f'<section class="view" id="part-{name}" aria-labelledby="{name}-title"><h1 id="{name}-title" tabindex="-1" data-name="{title}" data-as="part of this page">{title}</h1>{getattr(self, name)()}</section>'
             for name, title in PARTS.items()
         )
         parts = {"STYLE": self.text("web/proofs.css"), "PARTS": views, "DATA": in_page(self.data()), "SCRIPT": script("proofs")}
