@@ -38,13 +38,13 @@ WRONG_WORDS = [
     (["steps", "-", "0", "1", "2", "3"], "3"), (["steps", "-", "0", "--at"], "--at"), (["steps", "-", "0", "--at", "1", "--at", "1"], "--at can be given only once"),
     (["steps", "-", "--watch"], "--watch"), (["steps", "-", "9" * 5000], "SLOT"), (["steps", "-", "²"], "SLOT"),
     (["listing", "-", "x"], "SLOT: has to be a number from 0 to 3, and x isn't one"), (["listing", "-", ""], "and an empty word isn't one"),
-    (["schedule"], "required: JOB"), (["schedule", "-", "--after"], "--after"), (["schedule", "-", "--every", "0"], "--every: has to be a number from 1"),
+    (["schedule"], "required: JOB;"), (["schedule", "-", "--after"], "--after"), (["schedule", "-", "--every", "0"], "--every: has to be a number from 1"),
     (["schedule", "-", "16=3"], "DEVICE=N: has to be a number from 0 to 15, and 16 isn't one"), (["schedule", "-", "3"], "DEVICE=N: has to be the number of a device"),
     (["schedule", "-", "--speed", "3=5"], "--speed: has to be the number of a device, =, a number of calls, + and a number"), (["schedule", "-", "--speed", "3=5+"], "an empty word isn't one"),
     (["schedule", "-", "--speed", "16=1+1"], "--speed: has to be a number from 0 to 15"), (["schedule", "-", "--speeds", "fast"], "(choose from 'kdf9')"), (["schedule", "-", "--speed"], "--speed"),
     (["explore"], "required: JOB"), (["explore", "-", "--calls", "0"], "--calls: has to be a number from 1 to 10000"), (["explore", "-", "--runs", "x"], "--runs"),
     (["explore", "-", "--mode", "best"], "--mode"), (["explore", "-", "--out"], "--out"), (["explore", "-", "x"], "x"),
-    (["stats"], "required: JOB"), (["stats", "-", "--json", "--csv"], "not allowed with"), (["stats", "-", "-"], "- is given twice"),
+    (["stats"], "required: JOB;"), (["stats", "-", "--json", "--csv"], "not allowed with"), (["stats", "-", "-"], "- is given twice"),
     (["study"], "required: PLAN"), (["study", "-", "--part", "3/2"], "--part: has to be I/N"), (["study", "-", "--out"], "--out"),
     (["mark"], "required: COURSE"), (["mark", "machine"], "HAND-INS is missing"), (["mark", "machine", "x", "--try"], "there are no HAND-INS"),
     (["mark", "machine", "x", "--seeds", "3"], "--seeds needs --try"), (["mark", "machine", "x", "--csv", "--json"], "not allowed with"), (["mark", "machine", "--hand-out"], "--hand-out"),
@@ -150,6 +150,26 @@ def names_of_no_files_are_refused() -> Cases:
         os.close(stdin)
 
 
+def names_are_written_as_they_are() -> Cases:
+    """Names of files and folders are written as they are on the disk, also those that aren't ASCII, have a space, or are no UTF-8."""
+    with tempfile.TemporaryDirectory() as folder:
+        for name in (b"\xc3\xa9t\xc3\xa9 \xe6\x97\xa5", b"\xe9t\xe9"):
+            own = os.path.join(os.fsencode(folder), name)
+            os.mkdir(own)
+            job = os.path.join(own, b"job")
+            plan = json.dumps({"job": str(ROOT / JOB), "values": {"after": [1]}, "measures": ["calls"]}).encode("ascii")
+            for words in (["stats", "-"], ["stats", "-", "--csv"], ["explore", JOB, "--out"], ["study", "-", "--out"], ["mark", "machine", "--hand-out"], ["lsp", "--faults"]):
+                given = pathlib.Path(os.fsdecode(os.path.join(own, words[0].encode("ascii"))))
+                if words[0] in ("stats", "lsp"):
+                    given = pathlib.Path(os.fsdecode(job))
+                    given.write_text((HEAD if words[0] == "stats" else HEAD.replace("J1", "ADD")) + TAIL, encoding="ascii")
+                whole = [ROOT / "kdf9", *words, given]
+                text = plan if words[0] == "study" else (HEAD + TAIL).encode("ascii")
+                done = subprocess.run(whole, cwd=ROOT, env=ENVIRONMENT, input=text, capture_output=True, check=False)
+                good = (done.returncode, done.stderr) == (0, b"") and os.fsencode(given) in done.stdout
+                yield f"{' '.join(words)} with the name {name!r}", None if good else f"{done}"
+
+
 def streams_that_fail_are_said() -> Cases:
     for words, file in GOOD:
         with open(ROOT / file, "rb") as stdin, open("/dev/full", "wb") as full:
@@ -250,6 +270,6 @@ def lines_are_json_too() -> Cases:
 
 
 SUITES = (lines_are_json_too, 
-    tools_say_what_they_are_for, examples_of_tools_work, tools_are_listed, wrong_words_are_refused, no_texts_are_refused, names_of_no_files_are_refused,
+    tools_say_what_they_are_for, examples_of_tools_work, tools_are_listed, wrong_words_are_refused, no_texts_are_refused, names_of_no_files_are_refused, names_are_written_as_they_are,
     streams_that_fail_are_said, want_of_memory_is_said, interrupts_are_silent, fuzz_finds_nothing,
 )

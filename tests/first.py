@@ -126,7 +126,7 @@ def page_answers(fresh: Fresh) -> Cases:
     fresh.has_page()
     yield "the page", differs(fresh.go("run", text="job"), 3, "<module of the page><run>job", "kdf9: in the background: ", OF_PAGE)
     yield "make, which reads nothing", differs(fresh.go("make", "7", text="job"), 3, "<module of the page><make><7>", "kdf9: ", OF_PAGE)
-    yield "a word of two lines", differs(fresh.go("walk", "a\nb"), 42, "<tried><first><walk><a\nb>", "kdf9: ", OF_KIT)
+    yield "a word of two lines", differs(fresh.go("walk", "a\nb"), 42, "<tried><first><walk><a\nb>", "kdf9: walk is no command and no tool", "kdf9: ", OF_KIT)
     page = fresh.folder / "dist/kdf9.html"
     page.write_text(f"{page.read_text()} ")
     yield "a page that was changed", differs(fresh.go("run", text="job"), 42, "<tried><first><run>job", "kdf9: ", OF_KIT)

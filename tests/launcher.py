@@ -283,15 +283,20 @@ def says_how_a_job_is_handed_in(checkout):
         yield differs(checkout.start(command, "my.job"), 42, f"<first><{command}><my.job>", f"{text} is read from standard input: ./kdf9 {command} < my.job")
     yield differs(checkout.start("alone", "0", "my job"), 42, "<first><alone><0><my job>", "./kdf9 alone 0 < my\\ job")
     yield differs(checkout.start("watch", "0", "2", "my job"), 42, "<first><watch><0><2><my job>", "./kdf9 watch 0 2 < my\\ job")
-    for words in (["run"], ["save"], ["resume"], ["check"], ["alone", "0"], ["asm", "3"], ["watch", "0", "2"], ["make", "0"], ["sum"], ["run", "--json"], ["check", "--json"]):
+    for words in (["run"], ["save"], ["resume"], ["check"], ["alone", "0"], ["asm", "3"], ["watch", "0", "2"], ["make", "0"], ["run", "--json"], ["check", "--json"]):
         yield differs(checkout.start(*words), 42, "<first>" + "".join(f"<{word}>" for word in words))
 
 
+    for word, shown in (("sum", "sum"), ("explian", "explian"), ("a b", "a\\ b")):
+        yield differs(checkout.start(word), 42, f"<first><{word}>", f"{shown} is no command and no tool; ./kdf9 --help lists them")
+
+
 def says_what_there_is_without_a_program(checkout):
-    for words, part in ((["--help"], "tools, where JOB is"), (["-h"], "commands, which"), (["run", "--help"], "usage: ./kdf9 run < JOB\n"), (["alone", "0", "-h"], "alone K < JOB")):
+    for words, part in ((["--help"], "tools, where JOB is"), (["-h"], "commands, which"), (["run", "--help"], "usage: ./kdf9 run < JOB\n"), (["alone", "0", "-h"], "alone K < JOB"), (["--help", "run"], "usage: ./kdf9 run < JOB\n")):
         run = checkout.start(*words)
         yield None if run[0] == 0 and part in run[1] and not run[2] else f"{run}"
-    yield differs(checkout.start("walk", "--help"), 2, "", "walk is no command and no tool; ./kdf9 --help lists them")
+    for words in (["walk", "--help"], ["--help", "walk"]):
+        yield differs(checkout.start(*words), 2, "", "walk is no command and no tool; ./kdf9 --help lists them")
     checkout.without("python3")
     yield differs(checkout.start("run", "--help"), 1, "", "--help needs python3, which isn't on this machine")
     yield None if not checkout.builds() else "a program was built"

@@ -97,7 +97,10 @@ def files_are_written(made: Library) -> Cases:
     again = done([ROOT / "kdf9", "lib", made.folder])
     yield "lib into a folder that is there", None if again.status == 0 and "cc -I" in again.out else f"{again}"
     file = done([ROOT / "kdf9", "lib", made.folder / "kdf9.h"])
-    yield "lib into a file", None if file.status == 1 and file.err.count("\n") == 1 and "File exists" in file.err else f"{file}"
+    spaced = made.folder.parent / "with a space"
+    shown = done([ROOT / "kdf9", "lib", spaced]).out
+    yield "lib into a folder with a space", None if f"cc -I'{spaced}' program.c" in shown else shown
+    yield "lib into a file", None if file.status == 1 and file.err.count("\n") == 1 and "this is a file, and no folder" in file.err else f"{file}"
 
 
 def programs_of_c_run(made: Library) -> Cases:
@@ -281,6 +284,28 @@ def exceptions_have_fields(_: Library) -> Cases:
     yield "another command", None if text.startswith("KDF9 ALONE 0\n") or "STATE ENDED" in text else text
 
 
+    yield "a slot as a number", None if kdf9.run(job_of(PLAIN), "alone", 0) == text else "the answer differs"
+
+
+# Calls that a program may make by a slip, what is raised, and what that says.
+SLIPS = [
+    (lambda job: kdf9.run(None), TypeError, "a job is its text, a str or bytes, and not of the type NoneType"), (lambda job: kdf9.facts(7), TypeError, "not of the type int"),
+    (lambda job: kdf9.listing(job, 7), kdf9.Refused, "USAGE kdf9 run"), (lambda job: kdf9.listing(job, "first"), kdf9.Refused, "USAGE kdf9 run"),
+    (lambda job: kdf9.facts(job).program(3), ValueError, "the job has no slot 3"),
+]
+
+
+def slips_are_said(_: Library) -> Cases:
+    """What Python programs are told of a call that can't be answered; and which names the package says that it has."""
+    for number, (call, raised, part) in enumerate(SLIPS, 1):
+        try:
+            call(job_of(PLAIN))
+            yield f"slip {number}", "nothing was raised"
+        except Exception as why:  # pylint: disable=broad-except
+            yield f"slip {number}", None if type(why) is raised and part in str(why) else f"{why!r}"
+    yield "the names of the package", None if set(kdf9.__all__) <= set(dir(kdf9)) else f"{dir(kdf9)}"
+
+
 def program_stands_in(_: Library) -> Cases:
     """Where there is no library, the program is started."""
 
@@ -307,7 +332,7 @@ def document_is_true(_: Library) -> Cases:
 
 SUITES = (
     files_are_written, programs_of_c_run, programs_of_python_run, programs_of_node_run, answers_are_those_of_the_program, odd_calls_are_answered, rooms_are_kept_to,
-    facts_are_told, rooms_of_facts_are_kept_to, programs_tell_facts, facts_have_types, threads_may_call_at_once, exceptions_have_fields, program_stands_in, document_is_true,
+    facts_are_told, rooms_of_facts_are_kept_to, programs_tell_facts, facts_have_types, threads_may_call_at_once, exceptions_have_fields, slips_are_said, program_stands_in, document_is_true,
 )
 
 

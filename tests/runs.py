@@ -79,7 +79,7 @@ BAD_INPUT = [
     (["same", "-"], HEAD, "-:7:1: BadLine: the job ends here"),
     (["same", "-", "examples/adds-cards.job"], ASKS, "examples/adds-cards.job: no slot has the same program as a slot of -"),
     (["steps", "-", "--run", "--watch", ""], ASKS, "-: slot 2 has no word "),
-    (["steps", "-", "2", "--watch", "V1"], ASKS, "-: slot 2 has no word V1"),
+    (["steps", "-", "2", "--watch", "V1"], ASKS, "-: slot 2 has no word V1; a word has its name in the deck, such as V0 or Y0, or is En with an address from 0 to "),
     (["steps", "-", "2", "12", "--run"], ASKS, "-: the program obeys only 10 orders in this run, so there is no order 12"),
 ]
 

@@ -26,7 +26,7 @@ TIMES_SHOWN = [
 ]
 
 BAD_INPUT = [
-    (["0", "--at", "2"], LOOP, "-: slot 0 has no statement 2"),
+    (["0", "--at", "2"], LOOP, "-: slot 0 has no statement 2; a statement is a reference such as 1 or 3P2, a part such as P2, or "),
     (["0", "--at", ""], LOOP, "-: slot 0 has no statement "),
     (["0", "--at", "P1"], LOOP, "-: slot 0 has no statement P1"),
     (["0", "--at", "1P1"], LOOP, "-: slot 0 has no statement 1P1"),

@@ -48,6 +48,8 @@ WRONG = [
     ({"values": {"programs": ["4"]}}, "programs has '4'"), ({"values": {"programs": ["10"]}}, "programs has '10'"), ({"values": {"priorities": ["01"]}}, "priorities has '01'"),
     ({"values": {"after": [-1]}}, "after has -1; a value is a number from 0 to 20000000"), ({"values": {"after 3": [1]}}, "names device 3, which the job doesn't have"),
     ({"values": {"pool LP": [16]}}, "pool LP has 16; a value is a number from 0 to 15"), ({"values": {"after": [1, 1]}}, "a list of different values"), ({"measures": 1}, "measures has to be a list"),
+    ({"measures": ["cals"]}, ":3: cals isn't a measure; they are in docs/STUDY.md"), ({"measures": ["slot 4 state"]}, "slot 4 state isn't a measure"), ({"measures": ["slot 0 held by LP"]}, "slot 0 held by LP isn't a measure"),
+    ({"measures": [], "plots": [{"across": "after", "up": "cals"}]}, "cals isn't a measure"),
     ({"job": "no.job"}, "no.job: No such file"), ({"job": 1}, "job has to be the name of a file"), ({"values": []}, "values has to have the parameters"),
     ({"values": {"speeds": ["fast"]}}, "speeds has 'fast'; a value is kdf9"), ({"values": {"faster": 0}}, "faster has 0; a value is a number from 0.001 to 1000"),
     ({"values": {"seed": [1]}}, "seed isn't a parameter"), ({"values": {"input 8": ["convoy.job"]}}, "convoy.job: No such file"), ({"workload": {}}, "no job stands beside it"),

@@ -4,7 +4,7 @@ What a statement became, and what a program did, is told by the machine itself (
 
 For other programs, `kdf9.run(job)` is the machine, and `kdf9.facts(job)` tells what there is to know of a run (docs/LIBRARY.md).
 """
-from typing import TYPE_CHECKING
+from typing import TYPE_CHECKING, List
 
 from kdf9.library import NoLibrary, Refused, run
 
@@ -15,6 +15,11 @@ __all__ = ["NoLibrary", "Refused", "facts", "listing", "run"]
 
 # What of kdf9/told.py users call by the name of the package. It is loaded when it is first asked for, since many tools do without it.
 TOLD = ("facts", "listing")
+
+
+def __dir__() -> List[str]:
+    """The names of the package, with those of what is loaded late."""
+    return sorted({*globals(), *TOLD})
 
 
 def __getattr__(name: str) -> object:

@@ -51,7 +51,10 @@ class Parser(argparse.ArgumentParser):
         return list(self._actions)
 
     def error(self, message: str) -> NoReturn:
-        """Refuses arguments that are wrong in this way."""
+        """Refuses arguments that are wrong in this way. Python also calls those required that there may be any number of, none too."""
+        for action in self._actions:
+            if action.nargs == "*":
+                message = message.replace(f", {action.metavar}", "")
         raise BadWords(message)
 
 

@@ -14,9 +14,6 @@ LONGEST_SUBJECT = 60
 # So many characters of a text are enough to tell what is wrong with its first line.
 FIRST = 4096
 
-# What to do on a terminal about bytes 13.
-BYTE_13 = f"{tables.hint('byte_13')}; remove them with tr -d '\\r'"
-
 
 def head(source: str, line: int, column: int, name: str, subject: str) -> str:
     """The line that says where something is and what it is. It begins like a compiler's."""
@@ -67,7 +64,13 @@ def told_hint(fault: told.Fault) -> Optional[str]:
     name = values.pop("name")
     if name == "snapshot_line":
         return tables.hint("snapshot_line", line=brief_at(shown(values["line"]), fault.column))
-    return BYTE_13 if name == "byte_13" else tables.hint(name, **values)
+    return tables.byte_13() if name == "byte_13" else tables.hint(name, **values)
+
+
+def in_one_line(source: str, fault: told.Fault) -> str:
+    """The line that says where a fault is, what is wrong, and what may have led to it."""
+    hint = told_hint(fault)
+    return f"{head_of(source, fault)}: {sentence(fault)}" + (f"; {hint}" if hint else "")
 
 
 def lines_of_job(source: str, text: str) -> List[str]:
@@ -75,9 +78,7 @@ def lines_of_job(source: str, text: str) -> List[str]:
     lines = jobs.read_lines(text)
     if lines[:1] == [HEADER]:
         return lines
-    fault = fault_of(text[:FIRST], "run")
-    hint = told_hint(fault)
-    raise BadInput(f"{head_of(source, fault)}: {sentence(fault)}" + (f"; {hint}" if hint else ""))
+    raise BadInput(in_one_line(source, fault_of(text[:FIRST], "run")))
 
 
 def sound_lines(source: str, text: str) -> List[str]:
@@ -101,5 +102,5 @@ def listing_of(source: str, text: str, number: int) -> told.Listing:
     """The facts of the deck of a slot. A job with a fault is bad input."""
     listing = told.told_in(text, "asm", str(number))
     if told.is_fault(listing):
-        raise BadInput(f"{source}: the job has more than {listing.limit} bytes" if listing.of == "text" else head_of(source, listing))
+        raise BadInput(f"{source}: the job has more than {listing.limit} bytes" if listing.of == "text" else in_one_line(source, listing))
     return listing

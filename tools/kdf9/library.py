@@ -25,6 +25,9 @@ MADE_NOW = "facts come from the machine as a library, which is made now, this on
 
 Text = Union[str, bytes]
 
+# A word of a command. The number of a slot may be an int.
+Word = Union[str, int]
+
 
 class Refused(ValueError):
     """The program refuses a job, or these words. Its text is the line that the program writes.
@@ -53,19 +56,19 @@ class NoLibrary(BadInput):
     """Why the library can't be used."""
 
 
-def run(job: Text, *words: str) -> str:
+def run(job: Text, *words: Word) -> str:
     """The text that a command of the program makes of a job: `run` if there are no words. A job that is a `str` is taken in UTF-8.
 
     Raises Refused where the job has a fault or the words are no command, and MemoryError where there is no memory.
     """
-    words = words or ("run",)
-    answer = answer_to(words, job)
+    asked = tuple(map(str, words)) or ("run",)
+    answer = answer_to(asked, job)
     if answer.status == NO_MEMORY:
         raise MemoryError("the machine got no memory")
     if answer.status and not answer.text:
         raise BadInput(how_ended(answer))
     if answer.status:
-        raise Refused(answer, fault_of(answer, as_bytes(job).decode(ENCODING), words))
+        raise Refused(answer, fault_of(answer, as_bytes(job).decode(ENCODING), asked))
     return answer.text
 
 
@@ -101,6 +104,8 @@ def answer_to(words: Sequence[str], job: Text) -> Answer:
 
 def as_bytes(job: Text) -> bytes:
     """The bytes of a job."""
+    if not isinstance(job, (str, bytes, bytearray, memoryview)):
+        raise TypeError(f"a job is its text, a str or bytes, and not of the type {type(job).__name__}")
     return job.encode("utf-8") if isinstance(job, str) else bytes(job)
 
 

@@ -2,6 +2,7 @@
 import csv
 import io
 import json
+import re
 from typing import Dict, Iterator, List, NamedTuple, Tuple, Union
 
 from kdf9.spent import DeviceFacts, Facts, ProgramFacts
@@ -32,6 +33,21 @@ class Measure(NamedTuple):
     def what(self) -> Tuple[str, Union[int, str], str]:
         """All but the value."""
         return self.of, self.number, self.name
+
+
+# The form of the name of a measure of a slot or a device, as a plan has it, and of a cause that holds a program up.
+OF_ONE, CAUSE = re.compile(r"(slot) [0-3] (.*)|(device) (?:\d|1[0-5]) (.*)"), re.compile(r"(device|group) \d+|pool (TP|LP)")
+
+
+def is_measure(name: str) -> bool:
+    """Whether a run can have a measure of this name."""
+    found = OF_ONE.fullmatch(name)
+    if not found:
+        return name in of_run(Facts(0, 0, 0, 0, 0, {}, {}))
+    if found[3]:
+        return found[4] in of_device(DeviceFacts("", True, 0, 0, 0, 0, 0, 0), 0)
+    cause = found[2][len(HELD_BY):] if found[2].startswith(HELD_BY) else ""
+    return bool(CAUSE.fullmatch(cause)) or found[2] in of_program(ProgramFacts("", 0, 0, 0, {}, 0))
 
 
 def share(part: int, whole: int) -> float:

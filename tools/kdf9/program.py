@@ -25,6 +25,19 @@ class Answer(NamedTuple):
     text: str
 
 
+def make_folder(path):
+    """Makes a folder, with those that it is in, where there is none."""
+    try:
+        path.mkdir(parents=True, exist_ok=True)
+    except FileExistsError as why:
+        raise BadInput(f"{path}: this is a file, and no folder; name another one") from why
+
+
+def written_name(name):
+    """The name of a file for a text that is written with a byte for each character: the bytes that it has on the disk."""
+    return os.fsencode(name).decode(ENCODING)
+
+
 def read_text(name):
     """The text of the file of this name, or of standard input for `-`."""
     try:

@@ -3,9 +3,11 @@ import re
 from typing import NamedTuple
 
 from kdf9.deck import WORD
+from kdf9.job import HEADER as JOB
 from kdf9.job import read_lines
 from kdf9.program import BadInput
-from kdf9.tables import table
+from kdf9.tables import byte_13, table
+from kdf9.tools import NAME
 
 # The entries of a journal, and how many fields each of them has after its first word; and those of which the last word is a name.
 ENTRIES = {row["entry"]: len(row["fields"]) for row in table("entries")}
@@ -160,9 +162,17 @@ def read(text, name, headers):
     """The report, or a text of its form, which begins with one of these lines."""
     lines = read_lines(text)
     if lines[:1] == [] or lines[0] not in headers:
-        raise BadInput(f"{name}:1: this isn't a report: its first line isn't {headers[0]}" + (" or KDF9 ALONE K" if len(headers) > 1 else ""))
+        raise BadInput(f"{name}:1: this isn't a report: its first line isn't {headers[0]}" + (" or KDF9 ALONE K" if len(headers) > 1 else "") + instead(lines))
     sections_from = next((at for at, line in enumerate(lines) if line.startswith(("SLOT ", "ENDREPORT"))), len(lines))
     return Report(lines[0], read_entries(lines[1:sections_from], name), read_sections(lines, sections_from, name))
+
+
+def instead(lines):
+    """What to do where a text has these lines and isn't a report, if that is known."""
+    first = lines[0] if lines else ""
+    if first == JOB:
+        return f"; this is a job, whose report {NAME} run writes"
+    return f"; {byte_13()}" if first.endswith("\r") else ""
 
 
 def read_entries(lines, name):

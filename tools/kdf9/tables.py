@@ -55,3 +55,8 @@ def check_made(folder: str, texts: Dict[str, Callable[[], str]], tool: str, word
             print(f"{folder}/{name} isn't made of the tables as they are now: {tool} --write writes it")
             status = 1
     return status
+
+
+def byte_13():
+    """The hint on bytes 13, with what to do about them on a terminal."""
+    return f"{hint('byte_13')}; remove them with tr -d '\\r'"

@@ -39,7 +39,10 @@ def subject(fault: Any) -> str:
 
 def program(run: Any, slot: int) -> Any:
     """How the program of a slot is at the end."""
-    return next(each for each in run.programs if each.slot == slot)
+    found = next((each for each in run.programs if each.slot == slot), None)
+    if found is None:
+        raise ValueError(f"the job has no slot {slot}")
+    return found
 
 
 def of_members(made: type, told: Dict[str, Any]) -> Any:
@@ -127,6 +130,8 @@ def __getattr__(name: str) -> type:
 def told_of(job: Text, *words: str) -> Any:
     """What the machine tells of a job by these words, which are `run`, or `asm` and a slot: a Run or a Listing, or a Fault."""
     told = library.facts(job, words)
+    if told["kind"] == "usage":
+        raise Refused(library.answer_to(words, job))
     del told["format"]
     return classes().of(told.pop("kind").capitalize())[1](told)
 
@@ -161,5 +166,5 @@ def facts(job: Text) -> Run:
 
 
 def listing(job: Text, slot: int) -> Listing:
-    """The facts of the deck of a slot. Raises Refused where the job has a fault."""
+    """The facts of the deck of a slot. Raises Refused where the job has a fault. A slot that the job hasn't has no words."""
     return sound(job, "asm", str(slot))

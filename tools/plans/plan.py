@@ -12,7 +12,8 @@ from typing import Any, Callable, Dict, Iterator, List, NamedTuple, NoReturn, Tu
 
 from kdf9.fault import sound_lines
 from kdf9.job import join_lines, kinds_of, read_pool, read_slots
-from kdf9.program import BadInput, read_text
+from kdf9.measures import is_measure
+from kdf9.program import ENCODING, BadInput, read_text
 from kdf9.tables import kinds, table
 from kdf9.words import listed
 from plans import workload
@@ -33,6 +34,9 @@ NUMBERS = {"seed": (0, 10**9), "degree": (1, workload.PROGRAMS), "computing": (0
 
 # What a value of another parameter has to be: what is said of it, and whether it is so.
 LEAST_FASTER, MOST_FASTER = 0.001, 1000
+
+# How Python says the place of what is wrong with JSON or TOML.
+PLACE = re.compile(r"(?:: | \(at )line (\d+),? column (\d+)(?: \(char \d+\)|\))")
 
 
 class Run(NamedTuple):
@@ -76,7 +80,7 @@ class Plan:
     """A plan that was read and found to be sound: its source, its parameters, the measures that it asks for, or none for all, and its plots."""
 
     def __init__(self, name: str) -> None:
-        self._name, self._text = name, read_text(name)
+        self._name, self._text = name, read_text(name).encode(ENCODING).decode("utf-8", "surrogateescape")
         record = self._record()
         for key in record:
             if key not in KEYS:
@@ -92,6 +96,8 @@ class Plan:
         self.measures: List[str] = record.get("measures", [])
         if not isinstance(self.measures, list) or not all(isinstance(measure, str) for measure in self.measures):
             self._refuse("measures", "has to be a list of names of measures")
+        for measure in self.measures:
+            self._check_measure(measure)
         self.plots: List[Plot] = self._plots(record.get("plots", []))
         if len(self) > MOST_RUNS:
             self._refuse("values", f"makes {len(self)} runs, and {MOST_RUNS} are the most")
@@ -134,7 +140,8 @@ class Plan:
         try:
             record = read(self._text)
         except (ValueError, RecursionError) as why:
-            raise BadInput(f"{self._name}: this isn't {'TOML' if self._name.endswith('.toml') else 'JSON'}: {' '.join(str(why).split())[:200]}") from why
+            form = "TOML" if self._name.endswith(".toml") else "JSON"
+            raise BadInput(f"{self._name}{place_of(why)}: this isn't {form}: {brief_of(why)}; a plan is JSON, or TOML if its name ends with .toml") from why
         return record if isinstance(record, dict) else self._refuse("", "a plan is an object with the keys job and values")
 
     def _source(self, record: Dict[str, Any]) -> Source:
@@ -253,6 +260,11 @@ class Plan:
         elif INPUT.fullmatch(parameter) and int(parameter[6:]) not in own:
             self._refuse(parameter, f"names device {parameter[6:]}, which no slot of the job has")
 
+    def _check_measure(self, name: str) -> None:
+        """Refuses what no run can have as a measure."""
+        if not is_measure(name):
+            self._refuse(name, "isn't a measure; they are in docs/STUDY.md, such as calls, slot 0 turnaround and device 2 busy")
+
     def _plots(self, plots: object) -> List[Plot]:
         """The plots that the plan asks for."""
         if not isinstance(plots, list) or not all(isinstance(plot, dict) and {"across", "up"} <= set(plot) <= set(OF_PLOT) for plot in plots):
@@ -263,6 +275,7 @@ class Plan:
                     self._refuse("plots", f"has a plot with {key} {plot[key]!r}, which isn't a parameter with several values")
             if not isinstance(plot["up"], str) or self.measures and plot["up"] not in self.measures:
                 self._refuse("plots", f"has a plot of {plot['up']!r}, which isn't one of the measures")
+            self._check_measure(plot["up"])
             only = plot.get("only", {})
             if not isinstance(only, dict) or not all(value in self.parameters.get(name, []) for name, value in only.items()):
                 self._refuse("plots", f"has a plot only of {only!r}; it has to have parameters, and for each one of its values")
@@ -272,6 +285,17 @@ class Plan:
         """Ends with what is wrong with a key of the plan, and with its line, if it is there."""
         line = next((at for at, text in enumerate(self._text.split("\n"), 1) if key and key in text), 1)
         raise BadInput(f"{self._name}:{line}: {key + ' ' if key else ''}{why}")
+
+
+def place_of(why: Exception) -> str:
+    """The line and the column of what is wrong with a text, as they stand after the name of its file; none if it doesn't say them."""
+    found = PLACE.search(str(why))
+    return f":{found[1]}:{found[2]}" if found else ""
+
+
+def brief_of(why: Exception) -> str:
+    """What is wrong with a text, without its place, and in few words."""
+    return " ".join(PLACE.sub("", str(why)).split())[:200]
 
 
 def checksum(text: str) -> str:

@@ -50,11 +50,16 @@ def point(across: Value, values: List[float]) -> Point:
     return Point(across, min(values), sum(values) / len(values), max(values))
 
 
-def write_plots(plan: Plan, there: There, folder: str) -> Iterator[pathlib.Path]:
-    """Draws the plots of a plan into a folder; their names."""
+def drawer(plan: Plan):
+    """What draws the plots of a plan. A plan without plots, and a Python that can't draw, are bad input."""
     if not plan.plots:
         raise BadInput("the plan has no plots; its key plots takes a list such as [{\"across\": \"programs\", \"up\": \"share running\"}]")
-    matplotlib = imported("matplotlib", "--plot", "python3-matplotlib")
+    return imported("matplotlib", "--plot", "python3-matplotlib")
+
+
+def write_plots(plan: Plan, there: There, folder: str) -> Iterator[pathlib.Path]:
+    """Draws the plots of a plan into a folder; their names."""
+    matplotlib = drawer(plan)
     matplotlib.use("Agg")
     for number, plot in enumerate(plan.plots, 1):
         path = pathlib.Path(folder) / f"plot-{number}-{re.sub('[^a-z0-9]+', '-', plot['up'].lower()).strip('-')}.svg"

@@ -10,7 +10,7 @@ from array import array
 from io import FileIO
 from typing import Dict, Iterable, Iterator, List
 
-from kdf9.program import BadInput
+from kdf9.program import BadInput, make_folder
 
 PLAN, ROWS, TABLE, ALL = "plan.json", "rows*.jsonl", "rows.csv", "rows.jsonl"
 RUN = re.compile(rb'\{"run": (\d+)')
@@ -26,7 +26,7 @@ class Rows:
 
     def __init__(self, folder: str, plan: str, name: str) -> None:
         self._folder = pathlib.Path(folder)
-        self._folder.mkdir(parents=True, exist_ok=True)
+        make_folder(self._folder)
         if not has_rows_of(self._folder, plan):
             new = self._folder / f"{PLAN}.{os.getpid()}"
             new.write_text(text_of_plan(plan), encoding="ascii")
@@ -58,7 +58,7 @@ class Rows:
         """Writes all rows as CSV, by the numbers of their runs; its name."""
         path = self._folder / TABLE
         new = self._folder / f"{TABLE}.{os.getpid()}"
-        with open(new, "w", encoding="ascii", newline="") as text:
+        with open(new, "w", encoding="utf-8", errors="surrogateescape", newline="") as text:
             self.there().write(text)
         new.replace(path)
         return path
