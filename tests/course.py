@@ -228,6 +228,12 @@ def hostile_cost_themselves() -> Cases:
         got = told.get(student.replace("\n", "?"), {})
         said = f"{got.get('remark')} {got.get('first')}"
         yield f"the hand-in '{student}'", None if got and (got["marks"] == 10) == (not due) and due in said else f"{got}"
+    with tempfile.TemporaryDirectory() as name:
+        pathlib.Path(name, "idle").mkdir()
+        pathlib.Path(name, "busy").mkdir()
+        pathlib.Path(name, "busy", "03.deck").write_bytes(SUM)
+        text = kdf9(["mark", "machine", name], "").out
+    yield "what is said of several alike", None if "\nidle\n  1 to 12: nothing was handed in\n" in text and "\n  1, 2, 4 to 12: nothing was handed in\n" in text else text
     yield "no formula in the table", None if "\n'=1+1," in table and "\n=" not in table else table[:300]
     yield "no name on the wall", None if "windows" not in page and page.count("<tr>") > len(HOSTILE) else page[:300]
 

@@ -110,17 +110,23 @@ def faults_are_shown(shown):
     shown.idle()
     state = shown.state()
     yield "the text of a fault", None if shown.js("kdf9.text()") == "DECK 0 UnknownOrder 20\n" else shown.js("kdf9.text()")
-    yield "a fault is said", None if "Status 3: a deck has a fault. UnknownOrder, line 5 of the job." in state else state
-    shown.js("document.querySelector('.fault button').click()")
+    yield "a fault is said", None if "Status 3: a deck has a fault. UnknownOrder, line 1 of the deck in slot 0." in state else state
+    shown.js(f"{id_of('run')}.focus()")
+    shown.click("to-fault")
     caret = shown.js("[document.activeElement.tagName, document.activeElement.selectionStart, document.activeElement.getAttribute('aria-invalid')]")
     yield "the caret goes to the fault", None if caret == ["TEXTAREA", 20, "true"] else f"{caret}"
     marked = shown.js("[document.querySelector('.painted .wrong').textContent, document.querySelector('.gutter .wrong').textContent]")
     yield "the fault is marked", None if marked == ["ADD 7", "▸1"] else f"{marked}"
+    shown.type_into(".slot textarea", deck.replace("PROGRAM;", "PRAGRAM;"))
+    shown.page.wait("document.querySelector('.fault')?.textContent.includes('PRAGRAM')")
+    said = shown.js("document.querySelector('.fault').textContent")
+    yield "a hint that asks", None if "did you mean PROGRAM? " in said else said
     shown.type_into(".slot textarea", deck.replace("SET 7;", "SET 70;"))
     shown.page.press("Enter", 13, CTRL)
     shown.idle()
     report, left = shown.js("kdf9.text()"), shown.js("document.querySelector('.fault') === null")
     yield "an edited deck runs by Ctrl and Enter", None if "WORD 3 0000000000000113" in report and left else f"{report} {left}"
+    yield "there is no fault to go to", None if shown.js(f"{id_of('to-fault')}.hidden") else "there is"
     words = shown.js("document.querySelector('#sections table').innerText.split(/\\s+/).join(' ')")
     yield "words have names and are decimal too", None if words == "Words name address octal decimal Y0 3 0000000000000113 75" else words
 

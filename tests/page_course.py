@@ -72,6 +72,11 @@ def exercises_are_done_by_keys(shown, course):
     first = reading.course(course)[0]
     runs = f"{sum(1 for _ in paged.planned(first))} runs"
     said = shown.state()
+    told = shown.js("[...document.querySelectorAll('#schedules-told li')].map((it) => it.textContent)")
+    known = {"at once": "at once: each transfer ends as soon as it has begun.", "after 20": "after 20: each transfer ends 20 calls after it began."}
+    plans = dict.fromkeys(plan.text for case in first.cases for plan in case.plans)
+    good = len(told) == len(plans) and all(said.startswith(f"{plan}: ") and said == known.get(plan, said) for plan, said in zip(plans, told))
+    yield f"{course}: the schedules are told", None if good else f"{told}"
     yield f"{course}: the first exercise", None if said.startswith(f"Exercise {first.number}: {first.title}.") else said
     at_first = checked_by_keys(shown)
     yield f"{course}: the starting job is checked", None if re.match(rf"▸ ✗ \d of {runs} right\. On ", at_first) else at_first
@@ -232,7 +237,43 @@ def courses_look_well(shown, course):
     shown.js("document.querySelectorAll('details').forEach((it) => { it.open = false; })")
 
 
-SUITES = failed_runs_are_shown, words_open_solutions, questions_are_tried, courses_look_well, verdicts_are_those_of_mark
+def faults_are_marked(shown, course):
+    """Check marks the fault of a deck in its editor, also if it comes at once after the change."""
+    shown.js(f"{id_of('exercise')}.selectedIndex = 0; {id_of('exercise')}.onchange()")
+    shown.view("parts")
+    before = shown.js("document.querySelector('.slot textarea').value")
+    shown.type_into(".slot textarea", before.replace("ZERO;", "ZERU;"))
+    shown.click("check")
+    shown.page.wait(f"{RESULT}.includes('has a fault')")
+    shown.page.wait("document.querySelector('.gutter .wrong') !== null")
+    yield f"{course}: a fault is marked after Check", None if shown.js(f"!{id_of('to-fault')}.hidden") else "there is no button to it"
+    shown.type_into(".slot textarea", before)
+
+
+def tabs_keep_all_work(opened, address, course):
+    """Two tabs at different exercises lose nothing of each other's work, and a file of links waits for some."""
+    clear = "if (!sessionStorage.begun) { localStorage.clear(); sessionStorage.begun = 'yes'; }"
+    tabs = [Shown(opened(address, before=clear)), Shown(opened(address))]
+    tabs[0].click("save-links")
+    yield f"{course}: a file of links without work", None if "There is no work to hand in yet" in tabs[0].state() else tabs[0].state()
+    for at, tab in enumerate(tabs):
+        tab.page.wait(f"!{id_of('check')}.disabled")
+        tab.js(f"{id_of('exercise')}.selectedIndex = {at}; {id_of('exercise')}.onchange()")
+    for at, tab in enumerate(tabs):
+        tab.view("parts")
+        tab.type_into(".slot textarea", f"(tab {at}) " + tab.js("document.querySelector('.slot textarea').value"))
+        for other in tabs:
+            other.page.wait(f"localStorage['kdf9.course.{course}'].includes('(tab {at}) ')")
+    kept = tabs[0].js(f"Object.values(JSON.parse(localStorage['kdf9.course.{course}']).work).map((it) => /tab \\d/.exec(it.job)?.[0])")
+    yield f"{course}: two tabs", None if kept == ["tab 0", "tab 1"] else f"{kept}"
+    tabs[1].click("save-links")
+    tabs[1].page.wait(f"{id_of('state')}.textContent.includes('has the links')")
+    yield f"{course}: a file of links", None if "the links of 2 exercises. Give the file your own name" in tabs[1].state() else tabs[1].state()
+    for tab in tabs:
+        tab.page.close()
+
+
+SUITES = faults_are_marked, failed_runs_are_shown, words_open_solutions, questions_are_tried, courses_look_well, verdicts_are_those_of_mark
 
 
 def course_in_page(opened, file, course):
@@ -247,6 +288,7 @@ def course_in_page(opened, file, course):
     for suite in SUITES:
         yield from suite(shown, course)
     shown.page.close()
+    yield from tabs_keep_all_work(opened, f"file://{file}", course)
 
 
 def scripts_are_well(running, files):
@@ -281,7 +323,7 @@ def take_picture(opened, file, picture):
     first = reading.course("machine")[0]
     with open(file, "wb") as written:
         subprocess.run([ROOT / "kdf9", "page", "--course", "machine"], stdout=written, check=True)
-    shown = Shown(opened(f"file://{file}", width=1200, height=900))
+    shown = Shown(opened(f"file://{file}", width=1200, height=1000))
     shown.page.wait(f"!{id_of('check')}.disabled")
     shown.type_into(".slot textarea", paged.as_job(first, first.wrong[0].text).partition("DECK\n")[2].partition("ENDDECK\n")[0])
     shown.click("check")

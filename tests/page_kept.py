@@ -17,6 +17,14 @@ WITHOUT_STORAGE = "Object.defineProperty(globalThis, 'localStorage', { get() { t
 # A page that isn't asked about when it is loaded again, since nobody is there to answer. Nobody has touched it, so the browser wouldn't ask anyway, but complain.
 WITHOUT_QUESTION = "addEventListener('beforeunload', (event) => event.stopImmediatePropagation());"
 
+# Drops a file on the page, and pastes so many characters into a deck: what the page takes, and what it refuses, the browser leaves alone.
+DROP = """(() => { const dataTransfer = new DataTransfer(), main = document.querySelector('main');
+    dataTransfer.items.add(new File([TEXT], 'dropped.job'));
+    return ['dragover', 'drop'].map((name) => !main.dispatchEvent(new DragEvent(name, { dataTransfer, bubbles: true, cancelable: true }))); })()"""
+PASTE = """(() => { const clipboardData = new DataTransfer();
+    clipboardData.setData('text/plain', ' '.repeat(COUNT));
+    return !document.querySelector('.slot textarea').dispatchEvent(new ClipboardEvent('paste', { clipboardData, bubbles: true, cancelable: true })); })()"""
+
 TAPE = "reads-tape"
 
 
@@ -128,4 +136,21 @@ def reloads_lose_nothing(opened, address):
     shown.page.close()
 
 
-SUITES = replaced_jobs_come_back, removals_are_undone, last_jobs_are_listed
+def files_are_opened(shown):
+    """A file that isn't a text leaves the job as it is. One that is dropped on the page is opened, and its fault is shown at once. A paste that is too long is refused."""
+    shown.write_job(own_job(51))
+    shown.open_file("photo", b"\x89PNG\r\n" + bytes(range(256)))
+    yield "a file that isn't a text", None if "isn't a text" in shown.state() and shown.js("kdf9.job()") == own_job(51) else f"{shown.state()} {shown.js('kdf9.job()')}"
+    text = own_job(52).replace("SET 52;", "SAT 52;")
+    shown.view("parts")
+    is_taken = shown.js(DROP.replace("TEXT", json.dumps(text)))
+    shown.page.wait(f"{id_of('state')}.textContent.includes('dropped.job')")
+    shown.page.wait("document.querySelector('.fault') !== null")
+    seen = shown.js("[kdf9.job(), document.querySelector('.fault').textContent.includes('SAT 52')]")
+    yield "a file that is dropped", None if is_taken == [True, True] and seen == [text, True] else f"{is_taken} {seen}"
+    pasted = [shown.js(PASTE.replace("COUNT", f"{count}")) for count in (1000, 300000)]
+    yield "a paste that is too long", None if pasted == [False, True] and "nothing was pasted" in shown.state() else f"{pasted} {shown.state()}"
+    shown.js(PRESS)
+
+
+SUITES = replaced_jobs_come_back, removals_are_undone, last_jobs_are_listed, files_are_opened

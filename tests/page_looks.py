@@ -53,6 +53,14 @@ SMALL = """(() => {
     return found;
 })()"""
 
+# The texts of the picture that run over its edge, or over the next text of their row.
+LEGEND_OVER = """(() => {
+    const svg = document.querySelector('#pictured svg'), edge = svg.getBoundingClientRect().right;
+    const all = [...svg.querySelectorAll('text:not(.digit)')].map((it) => ({ said: it.textContent, box: it.getBoundingClientRect() }));
+    const isOver = ({ box }) => box.right > edge || all.some((other) => Math.abs(other.box.top - box.top) < 2 && other.box.left > box.left && other.box.left < box.right);
+    return all.filter(isOver).map(({ said }) => said);
+})()"""
+
 # All that a tab leads to, in this sequence. Of the radio buttons of a group it leads to one.
 USABLE = """[...document.querySelectorAll('a[href], button, input, select, textarea, summary, [tabindex="0"]')].filter((it) => it.checkVisibility({ visibilityProperty: true })
     && !it.disabled && it.tabIndex >= 0 && (it.type !== 'radio' || it.checked))"""
@@ -127,6 +135,10 @@ def telephones_show_what_came(shown):
         shown.js(f"scrollTo(0, {at})")
         seen = [shown.js(IN_SIGHT.replace("NAME", json.dumps(name))) for name in ("run", "state")]
         yield f"Run and the state, {at}", None if seen == [True, True] else f"{seen}"
+    shown.js("scrollTo(0, 0)")
+    shown.click("to-results")
+    shown.page.wait(IN_SIGHT.replace("NAME", '"results-heading"'))
+    yield "a button leads to the results", None if shown.js("document.activeElement.id") == "results" else shown.js("document.activeElement.id")
     for what, size in (("a telephone", TELEPHONE), ("a window", WINDOW)):
         window(shown, size)
         shown.js("document.documentElement.style.fontSize = '200%'; 0")
@@ -136,19 +148,21 @@ def telephones_show_what_came(shown):
 
 
 def lectures_are_read_from_afar(shown):
-    """In a lecture all letters have 20 pixels or more, and there are the decks, the picture and what came of each program."""
+    """In a lecture all letters have 20 pixels or more, and there are the decks, the picture, what came of each program, and all that docs/TEACHING.md uses."""
     shown.example("adds-cards-while-a-tape-is-copied")
     shown.view("parts")
     shown.run("run")
     shown.click("lecture")
     small = [] if shown.js(f"{id_of('lecture')}.ariaPressed") != "true" else shown.js(SMALL.replace("LEAST", "18.5"))
-    seen = shown.js("['.slot textarea', '#verdicts', '#pictured svg', '#run'].map((it) => document.querySelector(it).checkVisibility())")
-    gone = shown.js("['#sections', '#theorem', 'footer', '#example'].map((it) => document.querySelector(it).checkVisibility())")
+    seen = shown.js("['.slot textarea', '#verdicts', '#pictured svg', '#run', '#example', '#look', '#scheduling', '#shuffle'].map((it) => document.querySelector(it).checkVisibility())")
+    over = shown.js(LEGEND_OVER)
+    gone = shown.js("['#sections', '#compare-alone', 'footer', '#save'].map((it) => document.querySelector(it).checkVisibility())")
     base = shown.js("parseFloat(getComputedStyle(document.querySelector('.slot textarea')).fontSize)")
     shown.click("lecture")
     yield "the letters of a lecture", None if small == [] and base >= 20 else f"{base} {small[:5]}"
     yield "what a lecture shows", None if all(seen) and not any(gone) else f"{seen} {gone}"
     back = shown.js("document.querySelector('#sections').checkVisibility()")
+    yield "the legend in a lecture", None if over == [] else f"runs over: {over}"
     yield "after the lecture", None if back else "the words are gone"
 
 

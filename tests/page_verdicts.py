@@ -19,6 +19,7 @@ MARKED = "[...document.querySelectorAll('#editors .stopped')].map((it) => it.tex
 CASES = [
     ("one that ends", job("PROGRAM; ZERO; OUT; FINISH;"), [("ended", ["Program 0 has ended, after 3 orders."])], []),
     ("one that fails", job("PROGRAM;\n  SET 1; ERASE; ERASE;\n  FINISH;"), [("failed", ["Program 0 failed at ERASE, line 2 of its deck. NOUV: nesting store", "the nest has 0 words"])], ["ERASE"]),
+    ("one that runs past its end", job("PROGRAM V0;\n  ZERO; =V0;\nFINISH;"), [("failed", ["where no statement wrote an order. LIV: lock-in", "is a jump missing, or ZERO; OUT; at the end?"])], []),
     ("an area above the store", job(READS.replace("33", "64"), TAPE), [("failed", ["at PRQ1, line 3 of its deck. LIV: lock-in", "Q1 is 3/32/64;", "words 0 to 63"])], ["PRQ1"]),
     ("a transfer without its END", HELD, [("held", ["held up at E32, line 3 of its deck, since call", "words 32 to 63", "has no END 3 after call"])], ["E32"]),
     ("a loop", job(LOOP), [("cut", ["the 40 calls of the schedule are used up, in which it obeyed 40 orders. It is at J1, line 2"])], ["J1"]),
@@ -41,6 +42,8 @@ def first_job_has_run(opened, address):
     seen = shown.js(f"[{VERDICTS}.length, document.querySelectorAll('#pictured svg').length, document.querySelectorAll('#sections table').length, {id_of('text-details')}.open]")
     yield "the page when it is opened", None if seen[:2] == [1, 1] and seen[2] and not seen[3] and shown.state().startswith("Done, in") else f"{seen} {shown.state()}"
     order = shown.js("[...document.querySelectorAll('#state, #verdicts, #pictured, #sections, #text-details')].map((it) => it.id).join(' ')")
+    hidden = shown.js("(({ scrollWidth, clientWidth }) => scrollWidth - clientWidth)(document.querySelector('.slot textarea'))")
+    yield "the first deck is in sight", None if hidden <= 0 else f"{hidden} pixels of it aren't"
     yield "the sequence of the results", None if order == "state verdicts pictured sections text-details" else order
     shown.page.close()
 
@@ -55,6 +58,7 @@ def verdicts_come_first(shown):
             seen = shown.js(VERDICTS)
             good = len(seen) == len(due) and all(kind == due_kind and all(part in said for part in parts) for (kind, said), (due_kind, parts) in zip(seen, due))
             yield f"what is said of {what}", None if good else f"{seen}"
+            yield f"the signs at the ends of sentences on {what}", None if not any("?." in said for _, said in seen) else f"{seen}"
             yield f"what is marked of {what}, {how}", None if shown.js(MARKED) == marked else f"{shown.js(MARKED)}"
             is_done = shown.state().startswith("Done")
             yield f"whether {what} is done", None if is_done == all(kind == "ended" for kind, _ in due) else shown.state()

@@ -24,6 +24,7 @@ export class CourseView {
     this.at = Math.max(0, course.exercises.findIndex(({ number }) => number === this.coursework.at));
     this.draw();
     addEventListener("hashchange", () => this.follow());
+    addEventListener("storage", () => { this.coursework.refresh(); this.drawProgress(); });
   }
 
   get exercise() {
@@ -60,9 +61,11 @@ export class CourseView {
 
   /** Draws the exercise that is chosen. */
   drawExercise() {
-    const { exercise } = this, { title, number, prose, limits, shown } = exercise, counts = limits.map((each) => make("li", {}, each));
+    const { exercise } = this, { title, number, prose, limits, schedules, shown } = exercise, counts = limits.map((each) => make("li", {}, each));
+    const meanings = schedules.map(([written, meaning]) => make("li", {}, make("code", {}, written), `: ${meaning}`));
     this.list.value = `${this.at}`;
     this.task.replaceChildren(make("h3", {}, `${number}. ${title}`), ...nodesOf(prose), make("h4", {}, "What counts"), make("ul", {}, ...counts),
+      make("details", { id: "schedules-told" }, make("summary", {}, "What these schedules are"), make("ul", {}, ...meanings)),
       this.tableOfCases("Cases that you see", shown));
     this.found.replaceChildren();
     this.drawHints();
@@ -160,9 +163,9 @@ export class CourseView {
   }
 
   /** Makes the runs of the exercise, and says how many are right. */
-  checkNow() {
+  async checkNow() {
     const { page, exercise } = this, { view: { text } } = page, of = runsOf(exercise);
-    return page.work(`Checking: ${many(of, "run")}.`, async () => {
+    await page.work(`Checking: ${many(of, "run")}.`, async () => {
       Object.assign(this.made, { max: of, value: 0, hidden: false });
       const result = await judged(page.ask, exercise, text, (made) => { this.made.value = made; }).finally(() => { this.made.hidden = true; });
       if (exercise !== this.exercise) return;
@@ -171,6 +174,7 @@ export class CourseView {
       this.drawProgress();
       this.drawResult(text === exercise.job && result.missed ? { ...result, remark: UNCHANGED } : result);
     });
+    await page.lookForFault();
   }
 
   /** What a check came to, in sentences. */
@@ -212,9 +216,13 @@ export class CourseView {
   /** Saves the jobs of all exercises that were begun as a file of links, each with the number of its exercise. */
   async saveLinks() {
     const place = location.href.split("#")[0], begun = Object.entries(this.coursework.work);
+    if (!begun.length) {
+      this.page.say("There is no work to hand in yet. Change the job of an exercise, or press Check.", true);
+      return;
+    }
     const lines = await Promise.all(begun.map(async ([number, { job }]) => `${number} ${place}${await packedJob(job)}\n`));
     saveFile(`${this.course.name}.txt`, lines.join(""));
-    this.page.say(`${this.course.name}.txt has the links of ${many(lines.length, "exercise")}.`);
+    this.page.say(`${this.course.name}.txt has the links of ${many(lines.length, "exercise")}. Give the file your own name before you hand it in.`);
   }
 
   drawTeacher() {

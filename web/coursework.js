@@ -26,8 +26,20 @@ export class Coursework {
   constructor(course) {
     this.course = course;
     this.key = `kdf9.course.${course}`;
-    const kept = workIn(storageOf("localStorage")?.getItem(this.key) ?? "", course);
-    Object.assign(this, kept ?? { at: 0, work: {}, tries: {} });
+    Object.assign(this, { isKept: true, ...this.stored() ?? { at: 0, work: {}, tries: {} } });
+  }
+
+  /** What the browser has of this course, from any tab; null if it has nothing. */
+  stored() {
+    return workIn(storageOf("localStorage")?.getItem(this.key) ?? "", this.course);
+  }
+
+  /** Takes what another tab has kept since. What the browser had no room for stays. */
+  refresh() {
+    const kept = this.isKept ? this.stored() : null;
+    if (!kept) return;
+    this.work = kept.work;
+    Object.assign(this.tries, { ...kept.tries, ...this.tries });
   }
 
   /** What was done in an exercise. */
@@ -37,15 +49,23 @@ export class Coursework {
 
   /** Keeps something of an exercise. */
   set(exercise, more) {
+    this.refresh();
     this.work[exercise.number] = { ...this.of(exercise), ...more };
-    this.keep();
+    this.write();
   }
 
+  /** Keeps which exercise is chosen, and the answers to questions. */
   keep() {
+    this.refresh();
+    this.write();
+  }
+
+  write() {
     try {
       storageOf("localStorage")?.setItem(this.key, this.text);
+      this.isKept = true;
     } catch {
-      // The browser has no room. The link still has everything.
+      this.isKept = false; // The browser has no room. The link still has everything.
     }
   }
 
@@ -63,9 +83,10 @@ export class Coursework {
   async take(hash) {
     const text = await unpackedText(hash.slice(PREFIX.length)), found = text === null ? null : workIn(text, this.course);
     if (!found) return null;
+    this.refresh();
     const replaced = Object.entries(found.work).filter(([number, { job }]) => this.work[number] && this.work[number].job !== job).map(([number]) => this.work[number].job);
     Object.assign(this, { at: found.at, work: { ...this.work, ...found.work }, tries: { ...this.tries, ...found.tries } });
-    this.keep();
+    this.write();
     return replaced;
   }
 }

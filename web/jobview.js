@@ -5,6 +5,7 @@ import { Editor } from "./editor.js";
 import { lineAndColumn, painted } from "./deck.js";
 import { haveNames } from "./shows.js";
 import { HEADER, KINDS, KINDS_OF_POOL, POOL, editedMedia, editedShows, linesOf, placedLines, readJob, readMedia, readShows, writeJob } from "./job.js";
+import { asSentence } from "./report.js";
 import { saidOfSchedule } from "./schedule.js";
 
 const NO_PARTS = "This text can't be shown by parts: it is more than a job, or one of its lines isn't allowed where it is. Here is the whole text.";
@@ -35,10 +36,10 @@ function paintedJob(text) {
 
 export class JobView {
   /** The view of a job in an element of the page. `onchange` is called after each change that the user makes, and then `onremove` if something was removed, with
-   * what it was and the text of the job before. `assist` gives the element with the help for the editor of a deck, whose slot has this number, and `addresses`
+   * what it was and the text of the job before. `onfault` is told whether a fault is shown, and `onlong` is called if a text is pasted with which the job is too long. `assist` gives the element with the help for the editor of a deck, whose slot has this number, and `addresses`
    * the ranges of a slot that are shown, with addresses in the places of names. */
-  constructor(element, { onchange, onremove, assist, addresses }) {
-    Object.assign(this, { onchange, onremove, assist, addresses });
+  constructor(element, { onchange, onremove, onfault, onlong, assist, addresses }) {
+    Object.assign(this, { onchange, onremove, onfault, onlong, assist, addresses });
     this.isWhole = false;
     this.isScheduleOpen = false;
     this.stops = [];
@@ -48,6 +49,7 @@ export class JobView {
     this.parts = make("div", { class: "parts" });
     this.whole = new Editor({ label: "The whole job", text: "", paint: paintedJob, onchange: (text) => this.changed(text) });
     element.append(this.notice, this.parts, this.whole.element);
+    element.addEventListener("paste", (event) => this.refuseLong(event));
     this.show(`${HEADER}\n`);
   }
 
@@ -71,6 +73,13 @@ export class JobView {
 
   get isTooLong() {
     return this.text.length > LONGEST_EDITED;
+  }
+
+  /** Refuses what is pasted if the job is too long with it: the browser would stand still over it. */
+  refuseLong(event) {
+    if (this.text.length + (event.clipboardData?.getData("text/plain").length ?? 0) <= LONGEST_EDITED) return;
+    event.preventDefault();
+    this.onlong();
   }
 
   changed(text) {
@@ -290,15 +299,29 @@ export class JobView {
     const where = line ? `Line ${line}, column ${column}: ` : "";
     const subject = fault.subject ? `: ${fault.subject.length > 60 ? `${fault.subject.slice(0, 57)}...` : fault.subject}` : "";
     const element = control instanceof Editor ? control.textarea : control;
-    this.said.replaceChildren(`${where}${fault.name}${subject}. ${fault.said}${hint ? ` Hint: ${hint}.` : ""} `,
-      button("Go to it", () => (control instanceof Editor ? control.goTo(place) : control.focus())), ...(mend ? [" ", mend] : []));
+    this.said.replaceChildren(`${where}${fault.name}${subject}. ${fault.said}${hint ? ` Hint: ${asSentence(hint)}` : ""} `,
+      button("Go to it", () => this.goToFault()), ...(mend ? [" ", mend] : []));
     (control instanceof Editor ? control.element : control.closest(".fields")).after(this.said);
     const folded = this.said.closest("details");
     if (folded) folded.open = true;
     if (control instanceof Editor) control.mark(place, end);
     element.setAttribute("aria-invalid", "true");
     element.setAttribute("aria-describedby", this.said.id);
-    this.faulty = { control, element };
+    this.faulty = { control, element, place };
+    this.onfault(true);
+  }
+
+  /** Puts the caret at the fault that is shown. */
+  goToFault() {
+    const { control, place } = this.faulty;
+    if (control instanceof Editor) control.goTo(place);
+    else control.focus();
+  }
+
+  /** Where a fault is, by the line of the deck that is shown; undefined if the line of the text is shown. */
+  whereIs({ of, slot, offset }) {
+    const deck = of === "deck" && this.isByParts && this.job.slots.find(({ number }) => number === `${slot}`)?.deck;
+    return deck ? `line ${lineAndColumn(deck, offset).line} of the deck in slot ${slot}` : undefined;
   }
 
   /** Marks the statements at which programs stopped, until the job is changed. */
@@ -372,6 +395,7 @@ export class JobView {
 
   forgetFault() {
     this.said.remove();
+    this.onfault(false);
     if (!this.faulty) return;
     const { control, element } = this.faulty;
     if (control instanceof Editor) control.unmark();

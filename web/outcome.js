@@ -5,7 +5,7 @@ import { NOUGHT } from "./deck.js";
 import { STATUSES } from "./engine.js";
 import { Untold, factsFor } from "./facts.js";
 import { Pictured, tableOfSums } from "./pictured.js";
-import { readReport } from "./report.js";
+import { readReport, asSentence } from "./report.js";
 import { isReadable, layoutsOf, resultsOf, shownText } from "./results.js";
 import { Timeline } from "./timeline.js";
 import { Verdicts, drawVerdicts } from "./verdict.js";
@@ -93,11 +93,11 @@ export function showOutcome(outcome, { look, go, change, say } = {}) {
   byId("rest").hidden = byId("rest").textContent === "";
 }
 
-/** What an answer of the machine says in a line, and whether something is wrong: a fault, or a program that didn't end. */
-export function saidOfAnswer({ status, milliseconds, memory }, fault, verdicts) {
+/** What an answer of the machine says in a line, and whether something is wrong: a fault, which is `where`, or a program that didn't end. */
+export function saidOfAnswer({ status, milliseconds, memory }, { fault, where, verdicts }) {
   if (status !== DONE) {
-    const where = fault ? ` ${fault.name}, line ${fault.line} of the ${status === SNAPSHOT_HAS_FAULT ? "text" : "job"}. ${fault.said}` : "";
-    return { said: `Status ${status}: ${STATUSES[status]}.${where}`, isWrong: true };
+    const hint = fault?.hint ? ` Hint: ${asSentence(fault.hint)}` : "", found = fault ? ` ${fault.name}, ${where ?? `line ${fault.line} of the ${status === SNAPSHOT_HAS_FAULT ? "text" : "job"}`}. ${fault.said}${hint}` : "";
+    return { said: `Status ${status}: ${STATUSES[status]}.${found}`, isWrong: true };
   }
   const cost = `${Math.max(1, Math.round(milliseconds)).toLocaleString("en")} ms and ${(memory / MEBIBYTE).toFixed(1)} MiB`;
   if (!verdicts || verdicts.isGood) return { said: `Done, in ${cost}.`, isWrong: false };

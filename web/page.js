@@ -35,6 +35,8 @@ const WITH_VALUE = ["watch", "alone", "asm", "make"], READ_MORE = ["resume", "ch
 
 const NO_LINK = "The link is damaged, or has no job in it. The job below is another one.";
 
+const NOT_PASTED = "That is too long to be edited here, so nothing was pasted. Put it into a file and open that: it can be run so.";
+
 const IS_CHANGED = "The job has been changed since this run. Run it again.";
 
 /** How many milliseconds after the last key the page looks for a fault of the job. */
@@ -53,6 +55,7 @@ let caret = null; // the slot and the beginning of the statement at which the ca
 const view = new JobView(byId("editors"), {
   addresses: (slot, shows) => withAddresses(ask, slot, shows),
   onchange: changed, onremove: (what, before) => keeping.offerUndo(`Removed: ${what}.`, before),
+  onfault: (isShown) => { byId("to-fault").hidden = !isShown; }, onlong: () => say(NOT_PASTED, true),
   assist: (editor, slot) => new Assist(editor, help, (statement) => lastRun?.layouts.get(Number(slot.number))?.addressOf(statement),
     { breaks, slot: slot.number, runTo, caretAt: (number, statement) => { caret = statement && { slot: Number(number), start: statement.start }; } }).element,
 });
@@ -71,7 +74,7 @@ const exploring = new Exploring({ ask, say, work, isSound, text: () => view.text
 
 /** What the page can do for a course, and what a course does when something happens: when the page begins, was opened, shows a job, has a changed one, or is at work (course.js). */
 export const page = {
-  ask, say, work, begin, view, keeping, showOther, canRun: () => engine !== null,
+  ask, say, work, begin, view, keeping, showOther, lookForFault, canRun: () => engine !== null,
   first: openFirst, opened: () => {}, shown: () => {}, changed: () => {}, busy: () => {},
 };
 
@@ -232,7 +235,7 @@ async function runNow(asked) {
 }
 
 function sayAnswer(answer, fault, verdicts) {
-  const { said, isWrong } = saidOfAnswer(answer, fault, verdicts);
+  const { said, isWrong } = saidOfAnswer(answer, { fault, where: fault ? view.whereIs(fault) : undefined, verdicts });
   say(said, isWrong);
   byId("state").dataset.status = answer.status;
 }
@@ -393,15 +396,30 @@ function showRecorded({ report }) {
   if (report) showText(outcomeOfRecord(report), { say });
 }
 
-async function openFile() {
-  const [file] = byId("file").files;
+/** Begins with the text of a file. If it isn't a text, the job that is shown stays. */
+async function openFile(file) {
   if (!file) return;
   byId("file").value = "";
   const text = await file.text(), plain = text.replace(/\r\n?/g, "\n");
+  if (text.includes("\0")) return say(`${file.name} isn't a text, so the job stays as it is. Open a file whose first line is KDF9 JOB 1.`, true);
   chooseOwn();
   begin(plain, ["run"]);
+  lookForFault();
   if (text === plain) say(`${file.name} is open.`);
   else say(`${file.name} is open; its line ends, those of another system, were changed.`, true);
+  return undefined;
+}
+
+/** Opens a file that is dropped anywhere on the page. The browser would leave the page for it. */
+function attendToDrops() {
+  addEventListener("dragover", (event) => {
+    if (event.dataTransfer?.types.includes("Files")) event.preventDefault();
+  });
+  addEventListener("drop", (event) => {
+    if (!event.dataTransfer?.files.length) return;
+    event.preventDefault();
+    openFile(event.dataTransfer.files[0]);
+  });
 }
 
 async function showLink() {
@@ -437,7 +455,7 @@ function switchLecture() {
 
 /** What each button does. */
 const BUTTONS = {
-  run, stop, see, link: showLink, lecture: switchLecture, schedule: writeSchedule, look: () => look(0), try: () => trials.tryAll(), explore: () => exploring.all(),
+  run, stop, see, "to-fault": () => view.goToFault(), "to-results": () => goTo("results"), link: showLink, lecture: switchLecture, schedule: writeSchedule, look: () => look(0), try: () => trials.tryAll(), explore: () => exploring.all(),
   shuffle: () => variations.shuffle(), neighbours: () => variations.changeNeighbours(),
   "compare-alone": compareWithAlone, "compare-before": () => work("Comparing this run with the run before.", () => theorem.withBefore()),
   open: () => byId("file").click(), save: () => { saveFile("kdf9.job", view.text); keeping.saved(); }, "save-report": () => saveFile("kdf9.report", lastText),
@@ -445,6 +463,7 @@ const BUTTONS = {
 
 function attend() {
   attendToKeys();
+  attendToDrops();
   listSpeeds();
   for (const [id, act] of Object.entries(BUTTONS)) byId(id).onclick = () => act();
   byId("example").onchange = chooseExample;
@@ -455,7 +474,7 @@ function attend() {
   };
   byId("scheduling").ontoggle = byId("speeds").onchange = () => drawDelays(view.text);
   byId("place").onfocus = offerPlaces;
-  byId("file").onchange = openFile;
+  byId("file").onchange = () => openFile(byId("file").files[0]);
   byId("address").onfocus = () => byId("address").select();
   for (const radio of document.querySelectorAll("input[name=view]")) radio.onchange = () => view.showWhole(radio.value === "whole");
   addEventListener("hashchange", openLink);

@@ -76,3 +76,6 @@ export const listed = (words) => (words.length > 1 ? `${words.slice(0, -1).join(
 
 /** A number of things, in words: of one, or of all. */
 export const many = (number, what, all = `${what}s`) => `${number.toLocaleString("en")} ${number === 1 ? what : all}`;
+
+/** Words as a sentence with its full stop; a question has a sign of its own. */
+export const asSentence = (said) => (said.endsWith("?") ? said : `${said}.`);

@@ -5,7 +5,7 @@ import { lineAndColumn } from "./deck.js";
 import { button, make } from "./dom.js";
 import { readJob, writeJob } from "./job.js";
 import { wordsOfGroup } from "./journal.js";
-import { NAMES_OF_POOL, many } from "./report.js";
+import { NAMES_OF_POOL, many, asSentence } from "./report.js";
 import { readSchedule, writeSchedule } from "./schedule.js";
 import { JOB, LINES } from "./tables.js";
 
@@ -106,7 +106,7 @@ export class Verdicts {
     const before = this.layouts.get(slot)?.linesBefore ?? 0, isNew = ({ what, own }) => own || !SAID_ALREADY[kind].includes(what);
     return (why ?? []).slice(kind === "failed" ? 1 : 0).filter(isNew).map(({ sentence, line, column }) => {
       const said = sentence.replace(`${line}:${column}`, `line ${line - before}, column ${column} of its deck`);
-      return `${said[0].toUpperCase()}${said.slice(1)}.`;
+      return asSentence(`${said[0].toUpperCase()}${said.slice(1)}`);
     });
   }
 
@@ -122,7 +122,7 @@ export class Verdicts {
 
   failed(program, place) {
     const { slot, failure, at, why } = program, where = place || `at word ${at[0]}, syllable ${at[1]}, where no statement wrote an order`;
-    return { said: `Program ${slot} failed ${where}. ${failure}: ${this.failures[failure]}. Here ${why?.[0]?.sentence ?? this.operandsOf(program)}.` };
+    return { said: `Program ${slot} failed ${where}. ${failure}: ${this.failures[failure]}. ${asSentence(`Here ${why?.[0]?.sentence ?? this.operandsOf(program)}`)}` };
   }
 
   /** The registers that the statement at which a program failed has to do with. It is what is said where the machine doesn't tell why. */

@@ -4,7 +4,7 @@ import html
 import io
 import json
 import re
-from typing import Iterator, List, Sequence
+from typing import Dict, Iterator, List, Sequence, Tuple
 
 from courses.exercise import Exercise
 from courses.grading import Row
@@ -35,8 +35,29 @@ def as_text(exercises: Sequence[Exercise], rows: Sequence[Row]) -> str:
     for row in rows:
         wrong = [(exercise, verdict) for exercise, verdict in zip(exercises, row.verdicts) if not verdict.is_right]
         lines += ["", row.name] if wrong else []
-        lines += [f"  {exercise.number} {exercise.title}: {of_runs(verdict)}{said(verdict)}" for exercise, verdict in wrong]
+        lines += lines_of(wrong)
     return "".join(f"{line}\n" for line in lines)
+
+
+def lines_of(wrong: Sequence[Tuple[Exercise, Verdict]]) -> Iterator[str]:
+    """What is said of the hand-ins of a student that aren't right. What is said of several alike is said once, at the first of them."""
+    alike: Dict[str, List[Tuple[Exercise, Verdict]]] = {}
+    for exercise, verdict in wrong:
+        alike.setdefault(said(verdict), []).append((exercise, verdict))
+    for text, ((exercise, verdict), *others) in alike.items():
+        head = spans([exercise.number, *(each.number for each, _ in others)]) if others else f"{exercise.number} {exercise.title}"
+        yield f"  {head}: {'' if others else of_runs(verdict)}{text}"
+
+
+def spans(numbers_in_order: Sequence[int]) -> str:
+    """Numbers in words: `1, 3 to 5`."""
+    runs: List[List[int]] = []
+    for number in numbers_in_order:
+        if runs and number == runs[-1][-1] + 1:
+            runs[-1].append(number)
+        else:
+            runs.append([number])
+    return ", ".join(f"{run[0]} to {run[-1]}" if len(run) > 2 else ", ".join(map(str, run)) for run in runs)
 
 
 def of_runs(verdict: Verdict) -> str:

@@ -8,6 +8,7 @@ from courses.exercise import Case, Exercise
 from kdf9.program import BadInput
 from quizzes.kinds import question
 from quizzes.written import title
+from web.documents import meaning_of_schedule
 from web.prose import elements, inline
 from web.sealed import sealed
 
@@ -30,6 +31,7 @@ def of_exercise(exercise: Exercise) -> Dict[str, object]:
     """An exercise as the page has it."""
     return {
         **paged.table_of(exercise), "prose": elements(exercise.sheet), "hints": [inline(hint) for hint in exercise.hints], "limits": limits(exercise),
+        "schedules": [[written, f"{meaning_of_schedule(written)}."] for written in schedules(exercise)],
         "shown": [shown(case) for case in exercise.cases if case.is_shown], "questions": list(questions(exercise)),
         "sealed": sealed(kept_back(exercise), exercise.opens) if exercise.opens else None,
     }
@@ -43,7 +45,12 @@ def limits(exercise: Exercise) -> List[str]:
     said += [f"At most {rules.words} words in the image of a deck."] if rules.words else []
     said += [f"At most {rules.orders} orders in a run."] if rules.orders else []
     said += [f"The deck has to use {name}." for name in rules.uses] + [f"The deck mustn't use {name}." for name in rules.avoids]
-    return [*said, f"Schedules: {', '.join(dict.fromkeys(plan.text for case in exercise.cases for plan in case.plans))}. At most {rules.calls} calls."]
+    return [*said, f"Schedules: {', '.join(schedules(exercise))}. At most {rules.calls} calls."]
+
+
+def schedules(exercise: Exercise) -> List[str]:
+    """The schedules of an exercise, as they are written."""
+    return list(dict.fromkeys(plan.text for case in exercise.cases for plan in case.plans))
 
 
 def shown(case: Case) -> Dict[str, object]:

@@ -34,6 +34,13 @@ def failures():
     return {name: bare(glossary(name)) for name in re.findall(r"[A-Z]+", kinds)}
 
 
+def meaning_of_schedule(written):
+    """What docs/COURSE.md says of a schedule of an exercise that is written so, such as `after 20`."""
+    meanings = dict(re.findall(r"^\| `(\w+).*?` \| (.*?) \|$", section(read("docs/COURSE.md"), "Schedules", "###"), re.MULTILINE))
+    kind, *_, number = written.split(" ") * 2
+    return re.sub(r"\bN\b", number, bare(meanings[kind]))
+
+
 def help_of_statements():
     """What the documents say of each statement of a deck: of the orders by their names, of constants, of references, and of the sequence of a deck."""
     usercode = read("docs/USERCODE.md")
@@ -56,9 +63,9 @@ def bare(text):
     return " ".join(text.replace("`", "").replace("**", "").split())
 
 
-def section(text, name):
-    """The text below the heading of this name."""
-    return re.search(rf"^## {name}\n(.*?)(?=^## |\Z)", text, re.MULTILINE | re.DOTALL)[1]
+def section(text, name, level="##"):
+    """The text below the heading of this name and level."""
+    return re.search(rf"^{level} {name}\n(.*?)(?=^## |^{level} |\Z)", text, re.MULTILINE | re.DOTALL)[1]
 
 
 def glossary(word):
